@@ -1,0 +1,7 @@
+pub mod Loop
+pub mod Front
+pub mod Part
+pub mod Table
+pub mod Room
+pub mod Out
+pub mod Way
