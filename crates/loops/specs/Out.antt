@@ -2,23 +2,23 @@
 --   Out           the state that a step leaves, and the operations it records, in order
 --   done, says    a step that records nothing, and one that records one operation
 --   forOut        a counted loop of such steps
---   Run, run      a state beside a list room, and a step over it
---   run-for       a loop over the room does what the loop of steps does
+--   Run, run      a state beside the journal in which operations are noted, and a step over both
+--   run-for       a loop over both does what the loop of steps does
 -- Assumes nothing.
 use Prim.Native.Nat.{ℕ, zero, suc, _+_, _-_}
 use mathlib.Core.Path.{_≡_, refl}
 use mathlib.Core.Bool.{Bool, true, false}
 use mathlib.Core.List.{List, [], _∷_, _++_}
 use Rattle.loops.specs.Loop.{forTo, up}
-use Rattle.loops.specs.Room.{Log, puts, puts-append}
+use Rattle.loops.specs.Room.{notes, notes-append}
 
 pub record Out (O S : Type 0) : Type 0 where
   pub st : S
   pub ops : List O
 
-pub record Run (S : Type 0) : Type 0 where
+pub record Run (J S : Type 0) : Type 0 where
   pub st : S
-  pub log : Log
+  pub log : J
 
 module _ {O S : Type 0} where
   abbrev pub done : S → Out O S
@@ -38,20 +38,20 @@ module _ {O S : Type 0} where
   unfoldable pub forOut : ℕ → ℕ → (ℕ → S → Out O S) → S → Out O S
   forOut lo hi f s = forTo lo hi (λ (k : ℕ) (o : Out O S). andThen o (f k)) (done s)
 
-abbrev pub at : {S : Type 0} → S → Log → Run S
+abbrev pub at : {J S : Type 0} → S → J → Run J S
 at s g = record { st = s; log = g }
 
-module _ {O S : Type 0} (code : O → ℕ) where
-  abbrev pub run : (S → Out O S) → Run S → Run S
-  run f r = record { st = f (r .st) .st; log = puts code (r .log) (f (r .st) .ops) }
+module _ {O J S : Type 0} (note : J → O → J) where
+  abbrev pub run : (S → Out O S) → Run J S → Run J S
+  run f r = record { st = f (r .st) .st; log = notes note (r .log) (f (r .st) .ops) }
 
-  run-up : (lo n : ℕ) (f : ℕ → S → Out O S) (s : S) (g : Log)
+  run-up : (lo n : ℕ) (f : ℕ → S → Out O S) (s : S) (g : J)
       → up lo n (λ (k : ℕ). run (f k)) (at s g) ≡ run (λ (t : S). up lo n (λ (k : ℕ) (o : Out O S). andThen o (f k)) (done t)) (at s g)
-  unfolding up puts
+  unfolding up notes
   run-up lo zero f s g = refl
-  run-up lo (suc n) f s g = rw (run-up lo n f s g, puts-append)
+  run-up lo (suc n) f s g = rw (run-up lo n f s g, notes-append)
 
-  pub run-for : (lo hi : ℕ) (f : ℕ → S → Out O S) (s : S) (g : Log)
+  pub run-for : (lo hi : ℕ) (f : ℕ → S → Out O S) (s : S) (g : J)
       → forTo lo hi (λ (k : ℕ). run (f k)) (at s g) ≡ run (forOut lo hi f) (at s g)
   unfolding forTo forOut
   run-for lo hi f s g = run-up lo (hi - lo) f s g

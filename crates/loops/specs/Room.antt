@@ -1,4 +1,5 @@
--- A lent room for a list of operations, with a sticky count. `code` is the word of an operation.
+-- What is kept of operations as they are recorded; and a lent room for a list of them, with a sticky count. `code` is the word of an operation.
+--   notes           a journal after a list of operations, `note` being what one operation does to it
 --   Log             the words of the room, and the count: at most the room, or one above it once an operation found no place
 --   put, puts       one operation more; a list of them
 --   puts-fit        a list that fits stands in the room, word after word
@@ -27,18 +28,22 @@ abbrev pub pickLog : Bool → Log → Log → Log
 pickLog true a b = a
 pickLog false a b = b
 
+module _ {O J : Type 0} (note : J → O → J) where
+  unfoldable pub notes : J → List O → J
+  notes g [] = g
+  notes g (o ∷ os) = notes (note g o) os
+
+  pub notes-append : (g : J) (a b : List O) → notes g (a ++ b) ≡ notes (notes g a) b
+  unfolding notes
+  notes-append g [] b = refl
+  notes-append g (o ∷ os) b = notes-append (note g o) os b
+
 module _ {O : Type 0} (code : O → ℕ) where
   unfoldable pub put : Log → O → Log
   put g o = pickLog (ltb (g .count) (length (g .words))) (log (set (g .words) (g .count) (code o)) (g .count + 1)) (log (g .words) (length (g .words) + 1))
 
   unfoldable pub puts : Log → List O → Log
-  puts g [] = g
-  puts g (o ∷ os) = puts (put g o) os
-
-  pub puts-append : (g : Log) (a b : List O) → puts g (a ++ b) ≡ puts (puts g a) b
-  unfolding puts
-  puts-append g [] b = refl
-  puts-append g (o ∷ os) b = puts-append (put g o) os b
+  puts g os = notes put g os
 
   pub put-fits : (ws : List ℕ) (n : ℕ) (o : O) → n < length ws → put (log ws n) o ≡ log (set ws n (code o)) (n + 1)
   unfolding put
@@ -50,20 +55,20 @@ module _ {O : Type 0} (code : O → ℕ) where
 
   pub puts-fit : (ops : List O) (ws : List ℕ) (n : ℕ) → n + length ops ≤ length ws
       → puts (log ws n) ops ≡ log (sets ws n (map code ops)) (n + length ops)
-  unfolding puts
+  unfolding puts notes
   puts-fit [] ws n h = rw add-zero
   puts-fit (o ∷ os) ws n h =
       let e : n + 1 + length os ≡ n + suc (length os) = omega arith in
       rw (put-fits ws n o (omega arith), puts-fit os (set ws n (code o)) (n + 1) (rw length-set (omega arith)), e, add-one n)
 
   stuck : (ops : List O) (ws : List ℕ) (n : ℕ) → n ≡ length ws + 1 → puts (log ws n) ops ≡ log ws (length ws + 1)
-  unfolding puts
+  unfolding puts notes
   stuck [] ws n h = ap (log ws) h
   stuck (o ∷ os) ws n h = rw (put-full ws n o (omega arith)) (stuck os ws (length ws + 1) refl)
 
   pub puts-over : (ops : List O) (ws : List ℕ) (n : ℕ) → n ≤ length ws → length ws < n + length ops
       → puts (log ws n) ops .count ≡ length ws + 1
-  unfolding puts
+  unfolding puts notes
   puts-over [] ws n h k = absurd (omega (arith, add-zero n))
   puts-over (o ∷ os) ws n h k = go (ltb n (length ws)) refl (puts-over os (set ws n (code o)) (n + 1))
     where
