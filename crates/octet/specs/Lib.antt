@@ -4,4 +4,5 @@ pub mod Sums
 pub mod Products
 pub mod Powers
 pub mod Field
+pub mod Only
 pub mod Examples

@@ -1,13 +1,21 @@
--- Powers of octets, and the inverse: the 254th power.
+-- Powers of octets; the inverse, which is the 254th power, and quotients.
+--   power-zero, power-suc, power-add, power-mul, power-twice, power-one, power-swap, power-lt   powers, by their exponents
+--   powers n x           x, 2 x, 4 x, .., n of them
+--   power-of-two         every octet but zero is a power of 2
+--   power-255            and its 255th power is 1
+--   inverse-power, inverse-lt, mul-inverse   the inverse is the 254th power, an octet, and what its name says
+--   mul-swap, mul-cancel, mul-zero           a product of four; what is not zero is cancelled
+--   mul-quotient, quotient-only, quotient-lt, quotient-zero   the quotient is the one octet whose product with the divisor is the dividend
+--   quotient-powers      the quotient by the exponents
 -- Assumes nothing.
 use mathlib.Core.Path.{_≡_, refl, sym, ap, ap₂, _∙_, subst}
 use mathlib.Core.Bool.{Bool, true, false}
 use mathlib.Core.List.{List, [], _∷_}
-use Prim.Native.Nat.{ℕ, zero, suc, _+_, _-_, _*_, _/_, _%_, _^_, _≤_, _<_}
-use native.Mathlib.Nat.{mod-lt, zero-lt-suc, zero-add, suc-add, not-suc-le-zero, le-of-suc-le-suc}
+use Prim.Native.Nat.{ℕ, zero, suc, _+_, _-_, _<_}
+use native.Mathlib.Nat.{zero-add, suc-add, not-suc-le-zero, le-of-suc-le-suc}
 use native.Mathlib.Omega.{arith}
 use lib.Dec.{T, eqb, eqb→eq, lit<}
-use Rattle.octet.specs.Octet.{add, times, product, rest, mul, power, inverse, quotient}
+use Rattle.octet.specs.Octet.{add, times, product, rest, mul, power, squares, inverse, quotient}
 use Rattle.loops.specs.Table.{all, all-at}
 use Rattle.octet.specs.Products.{mul-assoc, mul-comm, mul-one-l, mul-one-r, mul-zero-l, mul-zero-r, mul-lt}
 
@@ -40,21 +48,9 @@ unfolding power
 power-mul a b zero = sym (mul-one-l 1 (lit< tt))
 power-mul a b (suc n) = ap (mul (mul a b)) (power-mul a b n) ∙ mul-swap a b (power a n) (power b n)
 
--- the exponent halved: what the recursive function goes by
+-- the exponent halved
 pub power-twice : (a n : ℕ) → power a (n + n) ≡ power (mul a a) n
 power-twice a n = power-add a n n ∙ sym (power-mul a a n)
-
-pub power-even : (a n s h : ℕ) → n % 2 ≡ 0 → s ≡ mul a a → h ≡ power s (n / 2) → h ≡ power a n
-power-even a n s h p e f =
-    let d : n / 2 + n / 2 ≡ n = omega arith in
-    f ∙ ap (λ x. power x (n / 2)) e ∙ sym (power-twice a (n / 2)) ∙ ap (power a) d
-
-pub power-odd : (a n s h : ℕ) → (n % 2 ≡ 0 → ⊥) → s ≡ mul a a → h ≡ power s (n / 2) → mul a h ≡ power a n
-power-odd a n s h p e f =
-    let d : n ≡ suc (n / 2 + n / 2) = omega arith in
-    ap (mul a) (f ∙ ap (λ x. power x (n / 2)) e ∙ sym (power-twice a (n / 2))) ∙ sym (power-suc a (n / 2 + n / 2)) ∙ sym (ap (power a) d)
-
--- ---- every octet but zero is a power of 2
 
 unfoldable pub powers : ℕ → ℕ → List ℕ
 powers zero x = []
@@ -98,8 +94,6 @@ unfolding covers Power power
 power-of-two zero h l = absurd (not-suc-le-zero h)
 power-of-two (suc a) h l = among-powers (suc a) 255 0 (all-at 255 (covers (powers 255 1)) cover a (le-of-suc-le-suc l))
 
--- ---- the inverse
-
 pub power-one : (n : ℕ) → power 1 n ≡ 1
 unfolding power
 power-one zero = refl
@@ -119,13 +113,27 @@ power-255 a h l =
     let g = power-of-two a h l in
     ap (λ x. power x 255) (g .1) ∙ power-swap 2 (g .0) 255 ∙ ap (λ x. power x (g .0)) order ∙ power-one (g .0)
 
+-- the number of n binary digits 1
+ones : ℕ → ℕ
+ones zero = 0
+ones (suc n) = suc (ones n + ones n)
+
+squares-power : (n a : ℕ) → squares n a ≡ power a (ones n)
+unfolding squares ones
+squares-power zero a = sym (power-zero a)
+squares-power (suc n) a =
+    ap (mul a) (squares-power n (mul a a) ∙ sym (power-twice a (ones n))) ∙ sym (power-suc a (ones n + ones n))
+
+pub inverse-power : (a : ℕ) → inverse a ≡ power a 254
+unfolding inverse ones
+inverse-power a = squares-power 7 (mul a a) ∙ sym (power-twice a 127)
+
 pub inverse-lt : (a : ℕ) → inverse a < 256
-unfolding inverse
-inverse-lt a = power-lt a 254
+unfolding inverse squares
+inverse-lt a = mul-lt _ _
 
 pub mul-inverse : (a : ℕ) → 0 < a → a < 256 → mul a (inverse a) ≡ 1
-unfolding inverse
-mul-inverse a h l = sym (power-suc a 254) ∙ power-255 a h l
+mul-inverse a h l = ap (mul a) (inverse-power a) ∙ sym (power-suc a 254) ∙ power-255 a h l
 
 -- no zero divisors: what is not zero is cancelled
 pub mul-cancel : (a b c : ℕ) → 0 < a → a < 256 → b < 256 → c < 256 → mul a b ≡ mul a c → b ≡ c

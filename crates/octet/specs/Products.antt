@@ -1,25 +1,29 @@
--- Multiplication of octets is additive in each argument, so its laws are tests at the powers of 2, which antt computes.
+-- Products of octets, additive in each argument, so that their laws are tests at the powers of 2, which antt computes.
+--   mul-add-l, mul-add-r     the product distributes over sums
+--   Linear f                 f is additive and reads the low eight digits of a number
+--   linear-l, linear-r       so is the product, in each argument
+--   after                    and one such function after another
+--   same                     two such functions that agree at the eight powers of 2 are the same
+--   equal                    two functions are the same below n, by a test that antt computes
+--   mul-comm, mul-assoc, mul-one-l, mul-one-r, mul-zero-l, mul-zero-r, mul-lt   the laws of a commutative ring; a product is an octet
 -- Assumes nothing.
 use mathlib.Core.Path.{_≡_, refl, sym, ap, ap₂, _∙_, subst}
-use mathlib.Core.Bool.{Bool}
-use Prim.Native.Nat.{ℕ, zero, suc, _+_, _*_, _/_, _%_, _^_, _≤_, _<_}
-use native.Mathlib.Nat.{le-of-suc-le-suc, not-suc-le-zero, mod-lt, zero-lt-suc, mod-eq-of-lt}
+use Prim.Native.Nat.{ℕ, zero, suc, _+_, _*_, _/_, _%_, _^_, _<_}
+use native.Mathlib.Nat.{mod-lt, zero-lt-suc}
 use native.Mathlib.Omega.{arith}
 use lib.Bits.{differ}
 use lib.Dec.{T, eqb, eqb→eq}
-use Rattle.octet.specs.Octet.{add, times, product, modulus, rest, mul, power}
+use Rattle.octet.specs.Octet.{add, times, product, modulus, rest, mul}
 use Rattle.loops.specs.Table.{all, all-at}
-use Rattle.octet.specs.Sums.{add-half, add-odd, add-shr, add-mod, add-self, add-zero-l, add-zero-r, add-swap, add-double, add-lt, odd-lt, agree, at-zero}
-
--- ---- additive in each argument
+use Rattle.octet.specs.Sums.{add-half, add-odd, add-shr, add-mod, add-self, add-zero-l, add-zero-r, add-swap, add-double, odd-lt, Additive, agree, at-zero}
 
 times-add-l : (x y p : ℕ) → x < 2 → y < 2 → times (differ x y) p ≡ add (times x p) (times y p)
 unfolding times
 times-add-l zero y p hx hy = sym (add-zero-l (times y p))
 times-add-l (suc x) zero p hx hy = sym (add-zero-r p)
 times-add-l (suc zero) (suc zero) p hx hy = sym (add-self p)
-times-add-l (suc zero) (suc (suc y)) p hx hy = absurd (not-suc-le-zero (le-of-suc-le-suc (le-of-suc-le-suc hy)))
-times-add-l (suc (suc x)) (suc y) p hx hy = absurd (not-suc-le-zero (le-of-suc-le-suc (le-of-suc-le-suc hx)))
+times-add-l (suc zero) (suc (suc y)) p hx hy = absurd (omega arith)
+times-add-l (suc (suc x)) (suc y) p hx hy = absurd (omega arith)
 
 times-add-r : (c p q : ℕ) → times c (add p q) ≡ add (times c p) (times c q)
 unfolding times
@@ -66,86 +70,63 @@ mul-add-r a b c =
     ap (rest 7) (ap (product 8 (a % 256)) (add-mod b c 8) ∙ product-add-r 8 (a % 256) (b % 256) (c % 256))
     ∙ rest-add 7 (product 8 (a % 256) (b % 256)) (product 8 (a % 256) (c % 256))
 
-mod256 : (a : ℕ) → a % 256 ≡ a % 256 % 256
-mod256 a = omega arith
+-- an additive function of an octet: of a number it reads the low eight digits
+pub record Linear (f : ℕ → ℕ) : Type 0 where
+  pub sums : Additive f
+  pub low : (a : ℕ) → f a ≡ f (a % 256)
 
-mul-low-l : (a b : ℕ) → mul a b ≡ mul (a % 256) b
+pub linear-l : (b : ℕ) → Linear (λ a. mul a b)
 unfolding mul
-mul-low-l a b = ap (λ (x : ℕ). rest 7 (product 8 x (b % 256))) (mod256 a)
+linear-l b = record { sums = λ x y. mul-add-l x y b; low = λ a. ap (λ (x : ℕ). rest 7 (product 8 x (b % 256))) (omega arith) }
 
-mul-low-r : (a b : ℕ) → mul a b ≡ mul a (b % 256)
+pub linear-r : (a : ℕ) → Linear (mul a)
 unfolding mul
-mul-low-r a b = ap (λ (x : ℕ). rest 7 (product 8 (a % 256) x)) (mod256 b)
+linear-r a = record { sums = mul-add-r a; low = λ b. ap (λ (x : ℕ). rest 7 (product 8 (a % 256) x)) (omega arith) }
 
--- two additive functions of an octet that agree at the eight powers of 2 are the same
-module _ (f g : ℕ → ℕ) (add-f : (a b : ℕ) → f (add a b) ≡ add (f a) (f b)) (add-g : (a b : ℕ) → g (add a b) ≡ add (g a) (g b))
-    (low-f : (a : ℕ) → f a ≡ f (a % 256)) (low-g : (a : ℕ) → g a ≡ g (a % 256)) where
-  same : ((i : ℕ) → i < 8 → f (2 ^ i) ≡ g (2 ^ i)) → (a : ℕ) → f a ≡ g a
-  same base a = low-f a ∙ agree f g add-f add-g 8 base (a % 256) (mod-lt a (zero-lt-suc 255)) ∙ sym (low-g a)
+linear-low : Linear (λ a. a % 256)
+linear-low = record { sums = λ x y. add-mod x y 8; low = λ a. omega arith }
 
--- ---- the tests at the powers of 2
+module _ {f g : ℕ → ℕ} (lf : Linear f) (lg : Linear g) where
+  pub after : Linear (λ a. f (g a))
+  after = record { sums = λ x y. ap f (lg .sums x y) ∙ lf .sums (g x) (g y); low = λ a. ap f (lg .low a) }
 
-commutes : ℕ → ℕ → Bool
-commutes i j = eqb (mul (2 ^ i) (2 ^ j)) (mul (2 ^ j) (2 ^ i))
+  pub same : ((i : ℕ) → i < 8 → f (2 ^ i) ≡ g (2 ^ i)) → (a : ℕ) → f a ≡ g a
+  same base a = lf .low a ∙ agree f g (lf .sums) (lg .sums) 8 base (a % 256) (mod-lt a (zero-lt-suc 255)) ∙ sym (lg .low a)
 
-commute : T (all 8 (λ i. all 8 (commutes i)))
-unfolding commutes mul rest product times add
-commute = tt
+-- two functions are equal below n, by a test that antt computes; of one, two, three numbers
+pub equal : (n : ℕ) (f g : ℕ → ℕ) → T (all n (λ i. eqb (f i) (g i))) → (i : ℕ) → i < n → f i ≡ g i
+equal n f g t i h = eqb→eq (f i) (g i) (all-at n (λ i. eqb (f i) (g i)) t i h)
 
-commute-at : (i : ℕ) → i < 8 → (j : ℕ) → j < 8 → mul (2 ^ i) (2 ^ j) ≡ mul (2 ^ j) (2 ^ i)
-unfolding commutes
-commute-at i hi j hj = eqb→eq (mul (2 ^ i) (2 ^ j)) (mul (2 ^ j) (2 ^ i)) (all-at 8 (commutes i) (all-at 8 (λ i. all 8 (commutes i)) commute i hi) j hj)
+equal-two : (n : ℕ) (f g : ℕ → ℕ → ℕ) → T (all n (λ i. all n (λ j. eqb (f i j) (g i j)))) → (i : ℕ) → i < n → (j : ℕ) → j < n → f i j ≡ g i j
+equal-two n f g t i h = equal n (f i) (g i) (all-at n (λ i. all n (λ j. eqb (f i j) (g i j))) t i h)
+
+equal-three : (n : ℕ) (f g : ℕ → ℕ → ℕ → ℕ) → T (all n (λ i. all n (λ j. all n (λ k. eqb (f i j k) (g i j k)))))
+    → (i : ℕ) → i < n → (j : ℕ) → j < n → (k : ℕ) → k < n → f i j k ≡ g i j k
+equal-three n f g t i h = equal-two n (f i) (g i) (all-at n (λ i. all n (λ j. all n (λ k. eqb (f i j k) (g i j k)))) t i h)
+
+commutes : (i : ℕ) → i < 8 → (j : ℕ) → j < 8 → mul (2 ^ i) (2 ^ j) ≡ mul (2 ^ j) (2 ^ i)
+unfolding mul rest product times add
+commutes = equal-two 8 (λ i j. mul (2 ^ i) (2 ^ j)) (λ i j. mul (2 ^ j) (2 ^ i)) tt
 
 pub mul-comm : (a b : ℕ) → mul a b ≡ mul b a
-mul-comm a b =
-    same (λ a. mul a b) (λ a. mul b a) (λ x y. mul-add-l x y b) (λ x y. mul-add-r b x y) (λ x. mul-low-l x b) (λ x. mul-low-r b x)
-    (λ i hi.
-    same (λ b. mul (2 ^ i) b) (λ b. mul b (2 ^ i)) (mul-add-r (2 ^ i)) (λ x y. mul-add-l x y (2 ^ i)) (mul-low-r (2 ^ i)) (λ x. mul-low-l x (2 ^ i))
-    (commute-at i hi) b) a
+mul-comm a b = same (linear-l b) (linear-r b) (λ i hi. same (linear-r (2 ^ i)) (linear-l (2 ^ i)) (commutes i hi) b) a
 
-associates : ℕ → ℕ → ℕ → Bool
-associates i j k = eqb (mul (mul (2 ^ i) (2 ^ j)) (2 ^ k)) (mul (2 ^ i) (mul (2 ^ j) (2 ^ k)))
-
-associate : T (all 8 (λ i. all 8 (λ j. all 8 (associates i j))))
-unfolding associates mul rest product times add
-associate = tt
-
-associate-at : (i : ℕ) → i < 8 → (j : ℕ) → j < 8 → (k : ℕ) → k < 8
-    → mul (mul (2 ^ i) (2 ^ j)) (2 ^ k) ≡ mul (2 ^ i) (mul (2 ^ j) (2 ^ k))
-unfolding associates
-associate-at i hi j hj k hk =
-    eqb→eq (mul (mul (2 ^ i) (2 ^ j)) (2 ^ k)) (mul (2 ^ i) (mul (2 ^ j) (2 ^ k)))
-    (all-at 8 (associates i j) (all-at 8 (λ j. all 8 (associates i j)) (all-at 8 (λ i. all 8 (λ j. all 8 (associates i j))) associate i hi) j hj) k hk)
+associates : (i : ℕ) → i < 8 → (j : ℕ) → j < 8 → (k : ℕ) → k < 8 → mul (mul (2 ^ i) (2 ^ j)) (2 ^ k) ≡ mul (2 ^ i) (mul (2 ^ j) (2 ^ k))
+unfolding mul rest product times add
+associates = equal-three 8 (λ i j k. mul (mul (2 ^ i) (2 ^ j)) (2 ^ k)) (λ i j k. mul (2 ^ i) (mul (2 ^ j) (2 ^ k))) tt
 
 pub mul-assoc : (a b c : ℕ) → mul (mul a b) c ≡ mul a (mul b c)
 mul-assoc a b c =
-    same (λ a. mul (mul a b) c) (λ a. mul a (mul b c))
-    (λ x y. ap (λ z. mul z c) (mul-add-l x y b) ∙ mul-add-l (mul x b) (mul y b) c) (λ x y. mul-add-l x y (mul b c))
-    (λ x. ap (λ z. mul z c) (mul-low-l x b)) (λ x. mul-low-l x (mul b c))
-    (λ i hi.
-    same (λ b. mul (mul (2 ^ i) b) c) (λ b. mul (2 ^ i) (mul b c))
-    (λ x y. ap (λ z. mul z c) (mul-add-r (2 ^ i) x y) ∙ mul-add-l (mul (2 ^ i) x) (mul (2 ^ i) y) c)
-    (λ x y. ap (mul (2 ^ i)) (mul-add-l x y c) ∙ mul-add-r (2 ^ i) (mul x c) (mul y c))
-    (λ x. ap (λ z. mul z c) (mul-low-r (2 ^ i) x)) (λ x. ap (mul (2 ^ i)) (mul-low-l x c))
-    (λ j hj.
-    same (λ c. mul (mul (2 ^ i) (2 ^ j)) c) (λ c. mul (2 ^ i) (mul (2 ^ j) c))
-    (mul-add-r (mul (2 ^ i) (2 ^ j)))
-    (λ x y. ap (mul (2 ^ i)) (mul-add-r (2 ^ j) x y) ∙ mul-add-r (2 ^ i) (mul (2 ^ j) x) (mul (2 ^ j) y))
-    (mul-low-r (mul (2 ^ i) (2 ^ j))) (λ x. ap (mul (2 ^ i)) (mul-low-r (2 ^ j) x))
-    (associate-at i hi j hj) c) b) a
+    same (after (linear-l c) (linear-l b)) (linear-l (mul b c))
+    (λ i hi. same (after (linear-l c) (linear-r (2 ^ i))) (after (linear-r (2 ^ i)) (linear-l c))
+    (λ j hj. same (linear-r (mul (2 ^ i) (2 ^ j))) (after (linear-r (2 ^ i)) (linear-r (2 ^ j))) (associates i hi j hj) c) b) a
 
--- ---- one, zero, and the bound
-
-keeps : ℕ → Bool
-keeps i = eqb (mul 1 (2 ^ i)) (2 ^ i)
-
-keep : T (all 8 keeps)
-unfolding keeps mul rest product times add
-keep = tt
+keeps : (i : ℕ) → i < 8 → mul 1 (2 ^ i) ≡ 2 ^ i
+unfolding mul rest product times add
+keeps = equal 8 (λ i. mul 1 (2 ^ i)) (λ i. 2 ^ i) tt
 
 pub mul-one-l : (a : ℕ) → a < 256 → mul 1 a ≡ a
-unfolding keeps
-mul-one-l a h = agree (mul 1) (λ x. x) (mul-add-r 1) (λ x y. refl) 8 (λ i hi. eqb→eq (mul 1 (2 ^ i)) (2 ^ i) (all-at 8 keeps keep i hi)) a h
+mul-one-l a h = agree (mul 1) (λ x. x) (mul-add-r 1) (λ x y. refl) 8 keeps a h
 
 pub mul-one-r : (a : ℕ) → a < 256 → mul a 1 ≡ a
 mul-one-r a h = mul-comm a 1 ∙ mul-one-l a h
@@ -156,26 +137,13 @@ mul-zero-l a = at-zero (λ x. mul x a) (λ x y. mul-add-l x y a)
 pub mul-zero-r : (a : ℕ) → mul a 0 ≡ 0
 mul-zero-r a = at-zero (mul a) (mul-add-r a)
 
-fits : ℕ → ℕ → Bool
-fits i j = eqb (mul (2 ^ i) (2 ^ j)) (mul (2 ^ i) (2 ^ j) % 256)
-
-fit : T (all 8 (λ i. all 8 (fits i)))
-unfolding fits mul rest product times add
-fit = tt
-
-fit-at : (i : ℕ) → i < 8 → (j : ℕ) → j < 8 → mul (2 ^ i) (2 ^ j) ≡ mul (2 ^ i) (2 ^ j) % 256
-unfolding fits
-fit-at i hi j hj = eqb→eq (mul (2 ^ i) (2 ^ j)) (mul (2 ^ i) (2 ^ j) % 256) (all-at 8 (fits i) (all-at 8 (λ i. all 8 (fits i)) fit i hi) j hj)
+fits : (i : ℕ) → i < 8 → (j : ℕ) → j < 8 → mul (2 ^ i) (2 ^ j) ≡ mul (2 ^ i) (2 ^ j) % 256
+unfolding mul rest product times add
+fits = equal-two 8 (λ i j. mul (2 ^ i) (2 ^ j)) (λ i j. mul (2 ^ i) (2 ^ j) % 256) tt
 
 mul-low : (a b : ℕ) → mul a b ≡ mul a b % 256
 mul-low a b =
-    same (λ a. mul a b) (λ a. mul a b % 256) (λ x y. mul-add-l x y b)
-    (λ x y. ap (λ z. z % 256) (mul-add-l x y b) ∙ add-mod (mul x b) (mul y b) 8)
-    (λ x. mul-low-l x b) (λ x. ap (λ z. z % 256) (mul-low-l x b))
-    (λ i hi.
-    same (mul (2 ^ i)) (λ b. mul (2 ^ i) b % 256) (mul-add-r (2 ^ i))
-    (λ x y. ap (λ z. z % 256) (mul-add-r (2 ^ i) x y) ∙ add-mod (mul (2 ^ i) x) (mul (2 ^ i) y) 8)
-    (mul-low-r (2 ^ i)) (λ x. ap (λ z. z % 256) (mul-low-r (2 ^ i) x)) (fit-at i hi) b) a
+    same (linear-l b) (after linear-low (linear-l b)) (λ i hi. same (linear-r (2 ^ i)) (after linear-low (linear-r (2 ^ i))) (fits i hi) b) a
 
 pub mul-lt : (a b : ℕ) → mul a b < 256
 mul-lt a b = subst (λ (x : ℕ). x < 256) (sym (mul-low a b)) (mod-lt (mul a b) (zero-lt-suc 255))

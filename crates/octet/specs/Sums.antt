@@ -1,31 +1,37 @@
--- Addition of octets is an abelian group in which each element is its own inverse, and additive functions are known by their values at the powers of 2.
+-- Sums of octets, an abelian group in which each element is its own inverse, and the functions that respect them.
+--   add-zero-l, add-zero-r, add-self, add-comm, add-assoc, add-lt   the laws of a group; the sum of two octets is one
+--   add-swap, add-cancel           what follows
+--   add-step, add-half, add-odd    the sum digit by digit
+--   add-mod, add-shr, add-double   the sum of the low digits, of the high digits, of doubles
+--   Additive f                     f of a sum is the sum
+--   at-zero                        such an f is 0 at 0
+--   agree                          two such functions that agree at the powers of 2 below 2 ^ k agree below 2 ^ k
 -- Assumes nothing.
 use mathlib.Core.Path.{_≡_, refl, sym, ap, ap₂, _∙_, subst}
-use mathlib.Core.Logic.{⊎-elim}
-use Prim.Native.Nat.{ℕ, zero, suc, _+_, _*_, _/_, _%_, _^_, _≤_, _<_}
-use native.Mathlib.Nat.{le-of-suc-le-suc, not-suc-le-zero, mod-lt, zero-lt-suc, div-add-mod', zero-add, add-zero}
+use Prim.Native.Nat.{ℕ, zero, suc, _+_, _*_, _/_, _%_, _^_, _<_}
+use native.Mathlib.Nat.{mod-lt, zero-lt-suc, add-zero}
 use native.Mathlib.Numerals.{one-add}
 use native.Mathlib.Omega.{arith}
-use lib.Arith.{bin-ind, digits-mod, digits-div, lt-one}
+use lib.Arith.{bin-ind, digits-mod, lt-one}
 use lib.Pow.{pow-pos, split, shr-lt}
-use lib.Bits.{bitXor, differ, xor-step, xor-comm, xor-self, xor-zero-r, xor-lt, xor-shr, xor-mod, xor-shifted}
+use lib.Bits.{differ, xor-step, xor-comm, xor-self, xor-zero-r, xor-lt, xor-shr, xor-mod, xor-shifted}
 use Rattle.octet.specs.Octet.{add}
 
 differ-lt : (x y : ℕ) → x < 2 → y < 2 → differ x y < 2
 differ-lt zero y hx hy = hy
 differ-lt (suc x) zero hx hy = hx
 differ-lt (suc zero) (suc zero) hx hy = zero-lt-suc 1
-differ-lt (suc zero) (suc (suc y)) hx hy = absurd (not-suc-le-zero (le-of-suc-le-suc (le-of-suc-le-suc hy)))
-differ-lt (suc (suc x)) (suc y) hx hy = absurd (not-suc-le-zero (le-of-suc-le-suc (le-of-suc-le-suc hx)))
+differ-lt (suc zero) (suc (suc y)) hx hy = absurd (omega arith)
+differ-lt (suc (suc x)) (suc y) hx hy = absurd (omega arith)
 
 differ-assoc : (x y z : ℕ) → x < 2 → y < 2 → z < 2 → differ (differ x y) z ≡ differ x (differ y z)
 differ-assoc zero y z hx hy hz = refl
 differ-assoc (suc x) zero z hx hy hz = refl
 differ-assoc (suc zero) (suc zero) zero hx hy hz = refl
 differ-assoc (suc zero) (suc zero) (suc zero) hx hy hz = refl
-differ-assoc (suc zero) (suc zero) (suc (suc z)) hx hy hz = absurd (not-suc-le-zero (le-of-suc-le-suc (le-of-suc-le-suc hz)))
-differ-assoc (suc zero) (suc (suc y)) z hx hy hz = absurd (not-suc-le-zero (le-of-suc-le-suc (le-of-suc-le-suc hy)))
-differ-assoc (suc (suc x)) (suc y) z hx hy hz = absurd (not-suc-le-zero (le-of-suc-le-suc (le-of-suc-le-suc hx)))
+differ-assoc (suc zero) (suc zero) (suc (suc z)) hx hy hz = absurd (omega arith)
+differ-assoc (suc zero) (suc (suc y)) z hx hy hz = absurd (omega arith)
+differ-assoc (suc (suc x)) (suc y) z hx hy hz = absurd (omega arith)
 
 pub odd-lt : (a : ℕ) → a % 2 < 2
 odd-lt a = mod-lt a (zero-lt-suc 1)
@@ -90,24 +96,16 @@ pub add-shr : (a b k : ℕ) → add a b / 2 ^ k ≡ add (a / 2 ^ k) (b / 2 ^ k)
 unfolding add
 add-shr a b k = xor-shr a b k
 
-dbl-half : (a : ℕ) → a * 2 / 2 ≡ a
-dbl-half a = omega arith
-
-dbl-odd : (a : ℕ) → a * 2 % 2 ≡ 0
-dbl-odd a = omega arith
-
 pub add-double : (a b : ℕ) → add a b * 2 ≡ add (a * 2) (b * 2)
 add-double a b =
-    sym (add-step (a * 2) (b * 2)
-    ∙ ap₂ (λ (x y : ℕ). x * 2 + y) (ap₂ add (dbl-half a) (dbl-half b)) (ap₂ differ (dbl-odd a) (dbl-odd b))
-    ∙ add-zero (add a b * 2))
+    let half : (x : ℕ) → x * 2 / 2 ≡ x = λ x. omega arith in
+    let odd : (x : ℕ) → x * 2 % 2 ≡ 0 = λ x. omega arith in
+    rw (add-step (a * 2) (b * 2), half a, half b, odd a, odd b, add-zero (add a b * 2))
 
--- ---- additive functions
-
-pub Additive : (ℕ → ℕ) → Type 0
+abbrev pub Additive : (ℕ → ℕ) → Type 0
 Additive f = (a b : ℕ) → f (add a b) ≡ add (f a) (f b)
 
-module _ (f : ℕ → ℕ) (add-f : (a b : ℕ) → f (add a b) ≡ add (f a) (f b)) where
+module _ (f : ℕ → ℕ) (add-f : Additive f) where
   pub at-zero : f 0 ≡ 0
   at-zero = ap f (sym (add-self 0)) ∙ add-f 0 0 ∙ add-self (f 0)
 
@@ -115,12 +113,11 @@ split-top : (a k : ℕ) → a ≡ add (a / 2 ^ k * 2 ^ k) (a % 2 ^ k)
 unfolding add
 split-top a k = sym (split a k) ∙ sym (xor-shifted (a / 2 ^ k) k (a % 2 ^ k) (mod-lt a (pow-pos k)))
 
--- two additive functions that agree at the powers of 2 below 2 ^ k agree below 2 ^ k
-module _ (f g : ℕ → ℕ) (add-f : (a b : ℕ) → f (add a b) ≡ add (f a) (f b)) (add-g : (a b : ℕ) → g (add a b) ≡ add (g a) (g b)) where
+module _ (f g : ℕ → ℕ) (add-f : Additive f) (add-g : Additive g) where
   digit : (k q : ℕ) → q < 2 → f (2 ^ k) ≡ g (2 ^ k) → f (q * 2 ^ k) ≡ g (q * 2 ^ k)
   digit k zero h e = ap f (omega arith) ∙ at-zero f add-f ∙ sym (at-zero g add-g) ∙ ap g (omega arith)
   digit k (suc zero) h e = ap f (omega arith) ∙ e ∙ ap g (omega arith)
-  digit k (suc (suc q)) h e = absurd (not-suc-le-zero (le-of-suc-le-suc (le-of-suc-le-suc h)))
+  digit k (suc (suc q)) h e = absurd (omega arith)
 
   pub agree : (k : ℕ) → ((i : ℕ) → i < k → f (2 ^ i) ≡ g (2 ^ i)) → (a : ℕ) → a < 2 ^ k → f a ≡ g a
   agree zero base a h = ap f (lt-one h) ∙ at-zero f add-f ∙ sym (at-zero g add-g) ∙ ap g (sym (lt-one h))

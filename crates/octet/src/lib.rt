@@ -2,7 +2,7 @@
 ghost use mathlib.Core.Path.{_≡_};
 ghost use Prim.Native.Nat.{_<_};
 ghost use Rattle.octet.specs.Octet.{add, mul, power};
-ghost use Rattle.octet.specs.Answers.{quotientOf};
+ghost use Rattle.octet.specs.Answers.{Divided};
 
 // RFC 6330, 5.7.3: entry i is the ith power of 2.
 const OCT_EXP: [u8; 510] = [
@@ -778,6 +778,7 @@ const OCT_LOG: [u8; 256] = [
     175,
 ];
 
+// The ith power of 2.
 fn exp(i: usize) -> u8
     requires { ⌜ i < 510 ⌝ }
     ensures { λ r. ⌜ r ≡ power 2 i ⌝ }
@@ -785,6 +786,7 @@ fn exp(i: usize) -> u8
     OCT_EXP[i]
 }
 
+// The power of 2 that a is.
 fn log(a: u8) -> u8
     requires { ⌜ 0 < a ⌝ }
     ensures { λ r. ⌜ (r < 255) × (power 2 r ≡ a) ⌝ }
@@ -792,6 +794,7 @@ fn log(a: u8) -> u8
     OCT_LOG[a as usize]
 }
 
+// An octet: its binary digits are the coefficients of a polynomial over GF(2).
 pub struct Octet {
     pub value: u8,
 }
@@ -807,6 +810,7 @@ impl Octet {
 
     pub const ONE: Octet = Octet { value: 1 };
 
+    // The sum: exclusive or.
     pub fn add(self, other: Octet) -> Octet
         ensures { λ r. ⌜ r .value ≡ add (self .value) (other .value) ⌝ }
     {
@@ -815,6 +819,7 @@ impl Octet {
         }
     }
 
+    // The product of polynomials modulo x^8 + x^4 + x^3 + x^2 + 1.
     pub fn mul(self, other: Octet) -> Octet
         ensures { λ r. ⌜ r .value ≡ mul (self .value) (other .value) ⌝ }
     {
@@ -831,8 +836,9 @@ impl Octet {
         }
     }
 
+    // The quotient, or that the divisor is zero.
     pub fn div(self, other: Octet) -> Quotient
-        ensures { λ r. ⌜ r ≡ quotientOf (self .value) (other .value) ⌝ }
+        ensures { λ r. ⌜ Divided (self .value) (other .value) r ⌝ }
     {
         let a = self.value;
         let b = other.value;

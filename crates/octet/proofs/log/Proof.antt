@@ -1,5 +1,4 @@
 -- `octet::log` meets its contract: each entry is its place among the powers of 2, a test that antt computes. Assumes nothing.
-use native.Mathlib.Omega.{arith}
 use borrow.Author.Needs.{needs}
 use borrow.Table.Row.{get}
 use Rattle.octet.specs.Octet.{add, times, product, rest, mul}

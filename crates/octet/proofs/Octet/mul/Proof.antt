@@ -1,15 +1,11 @@
 -- `octet::Octet::mul` meets its contract: exponents add. Assumes nothing.
-use mathlib.Core.Path.{_≡_, sym, ap, ap₂, _∙_}
+use mathlib.Core.Path.{sym, ap₂, _∙_}
 use borrow.Author.Needs.{needs}
 use Rattle.octet.specs.Octet.{mul}
 use Rattle.octet.specs.Products.{mul-zero-l, mul-zero-r}
 use Rattle.octet.specs.Powers.{power-add}
 use Rattle.octet.proofs.Octet.mul.Statement.{statement}
 use Rattle.octet.proofs.Octet.mul.Tie as tie
-use Rattle.octet.proofs.Octet.mul.Reads as reads
-use Rattle.octet.proofs.Octet.mul.Lts as lts
-use Rattle.octet.proofs.exp.Reads as exp-reads
-use Rattle.octet.proofs.log.Reads as log-reads
 
 returns : tie.Need-returns
 returns c = rw (c .if1 .taken) (sym (mul-zero-l _))
