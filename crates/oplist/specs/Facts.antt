@@ -1,5 +1,7 @@
 -- What a check that passed says, and that it passes where that holds.
 --   and-left, and-right, and-both   of two tests
+--   Shape                           the bounds on rows, columns and operations
+--   shapeFine-shape, shape-shapeFine   the check of a shape is just that
 --   Fine                            rows of an operation below m, dest not src
 --   opFine-fine, fine-opFine        the check of an operation is just that
 --   listFine-known, listFine-each   a list that passed has known words, whose operations are fine
@@ -15,8 +17,8 @@ use mathlib.Core.Logic.{_≢_}
 use mathlib.Core.Bool.{Bool, true, false, not, _&&_, _||_}
 use mathlib.Core.List.{List, [], _∷_}
 use native.Mathlib.Omega.{arith}
-use borrow.Author.Tests.{ltb-true, eqb-true, eqb-false, lt-ltb, eq-eqb, ne-eqb, not-true}
-use lib.Dec.{ltb, eqb}
+use borrow.Author.Tests.{leb-true, ltb-true, eqb-true, eqb-false, le-leb, lt-ltb, eq-eqb, ne-eqb, not-true}
+use lib.Dec.{leb, ltb, eqb}
 use lib.ListN.{length, getD, drop}
 use Rattle.oplist.specs.declared.Op.{Op}
 use Rattle.oplist.specs.declared.Op.the-variants.{AddAssign, MulAssign, FMA}
@@ -25,7 +27,7 @@ use Rattle.oplist.specs.declared.Word.the-variants.{Known, Unknown}
 use Rattle.oplist.specs.Ops.{Within, Apart, Nonzero, Each}
 use Rattle.oplist.specs.Word.{meaning}
 use Rattle.oplist.specs.Listed.{isKnown, withOp, known, opsOf, opsOf-drop, drop-next}
-use Rattle.oplist.specs.Check.{twoRows, opFine, wordFine, listFine, has, rowsFine, orderFine, opUndoable, wordUndoable, undoable}
+use Rattle.oplist.specs.Check.{mostRows, mostOps, shapeFine, twoRows, opFine, wordFine, listFine, has, rowsFine, orderFine, opUndoable, wordUndoable, undoable}
 
 pub never : {A : Type 0} → false ≡ true → A
 never e = let z : _≡_ {A = ℕ} 0 1 = cc in absurd (omega arith)
@@ -40,6 +42,30 @@ and-right false b e = never e
 
 pub and-both : {a b : Bool} → a ≡ true → b ≡ true → (a && b) ≡ true
 and-both e f = rw e f
+
+-- shapes
+
+pub record Shape (m l n : ℕ) : Type 0 where
+  pub some : 1 ≤ l
+  pub narrow : l ≤ m
+  pub rows : m ≤ mostRows
+  pub ops : n ≤ mostOps
+
+pub shapeFine-shape : (m l n : ℕ) → shapeFine m l n ≡ true → Shape m l n
+unfolding shapeFine
+shapeFine-shape m l n e =
+    let a = and-right (leb 1 l) _ e in
+    let b = and-right (leb l m) _ a in
+    record {
+      some = leb-true 1 l (and-left (leb 1 l) _ e);
+      narrow = leb-true l m (and-left (leb l m) _ a);
+      rows = leb-true m mostRows (and-left (leb m mostRows) _ b);
+      ops = leb-true n mostOps (and-right (leb m mostRows) _ b);
+    }
+
+pub shape-shapeFine : (m l n : ℕ) → Shape m l n → shapeFine m l n ≡ true
+unfolding shapeFine
+shape-shapeFine m l n s = rw (le-leb 1 l (s .some), le-leb l m (s .narrow), le-leb m mostRows (s .rows), le-leb n mostOps (s .ops))
 
 -- operations
 

@@ -4,6 +4,7 @@
 --   packed                           the word of an operation: kind 1, 2, 3 for AddAssign, MulAssign, FMA, a field that it lacks zero
 --   meaning                          the operation of a word; a word that is no operation's is an unknown kind
 --   Small                            an operation's fields fit their places in a word
+--   Fields, fields                   the fields of a word that was made from fields which fit
 --   meaning-packed, packed-meaning   each undoes the other
 --   packed-small, packed-one         the word of an operation fits 64 bits; two operations have two words
 -- Assumes nothing.
@@ -55,14 +56,13 @@ Small (AddAssign d s) = (d < 65536) × (s < 65536)
 Small (MulAssign d x) = (d < 65536) × (x < 256)
 Small (FMA d s x) = (d < 65536) × (s < 65536) × (x < 256)
 
--- the fields of a word that was made from fields which fit
-record Fields (w k x d s : ℕ) : Type 0 where
-  kind : kindOf w ≡ k
-  scalar : scalarOf w ≡ x
-  dest : destOf w ≡ d
-  src : srcOf w ≡ s
+pub record Fields (w k x d s : ℕ) : Type 0 where
+  pub kind : kindOf w ≡ k
+  pub scalar : scalarOf w ≡ x
+  pub dest : destOf w ≡ d
+  pub src : srcOf w ≡ s
 
-fields : (k x d s : ℕ) → x < 256 → d < 65536 → s < 65536 → Fields (word k x d s) k x d s
+pub fields : (k x d s : ℕ) → x < 256 → d < 65536 → s < 65536 → Fields (word k x d s) k x d s
 fields k x d s hx hd hs =
     let a : word k x d s / 65536 ≡ k * 16777216 + x * 65536 + d = omega arith in
     let b : word k x d s / 4294967296 ≡ k * 256 + x = omega arith in

@@ -6,7 +6,7 @@ ghost use Rattle.loops.specs.Room.{log, put};
 ghost use Rattle.oplist.specs.Word.{word, Small, packed, meaning};
 ghost use Rattle.oplist.specs.Listed.{opsOf};
 ghost use Rattle.oplist.specs.Count.{adds, muls, wordAdds, wordMuls};
-ghost use Rattle.oplist.specs.Check.{twoRows, opFine, wordFine, listFine, has, rowsFine, orderFine, wordUndoable, undoable};
+ghost use Rattle.oplist.specs.Check.{shapeFine, twoRows, opFine, wordFine, listFine, has, rowsFine, orderFine, wordUndoable, undoable};
 
 // One operation on the rows of a slab, rows by their number.
 pub enum Op {
@@ -141,6 +141,27 @@ pub fn multiplications(list: &[u64]) -> usize
     n
 }
 
+// The most rows of a slab, and the most operations of a list.
+pub const MOST_ROWS: usize = 256;
+
+pub const MOST_OPS: usize = 1048576;
+
+// Whether n operations on m rows, for l columns, keep to the bounds.
+pub fn shape_fine(m: usize, l: usize, n: usize) -> bool
+    ensures { λ r. ⌜ r ≡ shapeFine m l n ⌝ }
+{
+    if l < 1 {
+        return false;
+    }
+    if m < l {
+        return false;
+    }
+    if MOST_ROWS < m {
+        return false;
+    }
+    n <= MOST_OPS
+}
+
 fn two_rows(m: usize, d: usize, s: usize) -> bool
     ensures { λ r. ⌜ r ≡ twoRows m d s ⌝ }
 {
@@ -163,7 +184,8 @@ pub fn op_fine(m: usize, op: Op) -> bool
     }
 }
 
-fn word_fine(m: usize, w: u64) -> bool
+// Whether a word is an operation's, and passes its check.
+pub fn word_fine(m: usize, w: u64) -> bool
     ensures { λ r. ⌜ r ≡ wordFine m (meaning w) ⌝ }
 {
     match unpack(w) {

@@ -1,0 +1,9 @@
+pub mod Sums
+pub mod Rows
+pub mod Solve
+pub mod Order
+pub mod Flat
+pub mod Slab
+pub mod Singular
+pub mod Square
+pub mod Loops

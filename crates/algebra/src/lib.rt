@@ -1,0 +1,1 @@
+// Definitions and laws only: they are in specs/.
