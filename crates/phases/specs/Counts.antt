@@ -1,0 +1,84 @@
+-- The counts of an answer.
+--   added, multiplied   how many operations of a list are additions, and multiplications
+--   counts-are          each phase's count is that of its part of the list
+--   counts-sum          together they are those of the whole list
+--   counts-none         they are zeros unless the answer is Solved
+-- Assumes nothing.
+use mathlib.Core.Path.{_≡_, refl, sym}
+use mathlib.Core.Logic.{_≢_}
+use mathlib.Core.Bool.{Bool, true, false, cond}
+use mathlib.Core.List.{List, [], _∷_, _++_}
+use Prim.Native.Nat.{ℕ, _+_}
+use native.Mathlib.Nat.{zero-add}
+use native.Mathlib.Omega.{arith}
+use lib.Dec.{ltb}
+use lib.ListN.{length}
+use Rattle.oplist.specs.declared.Op.{Op}
+use Rattle.oplist.specs.declared.Op.the-variants.{AddAssign, MulAssign, FMA}
+use Rattle.phases.specs.Run.{Run, End, solved, no-pivot, singular, whole, adds, muls, total, counts, no-counts, ListFull, ending, answer}
+
+-- the AddAssign and FMA entries of a list, and its MulAssign and FMA entries
+abbrev pub added : List Op → List Op
+added [] = []
+added (AddAssign d s ∷ os) = AddAssign d s ∷ added os
+added (MulAssign d c ∷ os) = added os
+added (FMA d s c ∷ os) = FMA d s c ∷ added os
+
+abbrev pub multiplied : List Op → List Op
+multiplied [] = []
+multiplied (AddAssign d s ∷ os) = multiplied os
+multiplied (MulAssign d c ∷ os) = MulAssign d c ∷ multiplied os
+multiplied (FMA d s c ∷ os) = FMA d s c ∷ multiplied os
+
+pub adds-are : (os : List Op) → total adds os ≡ length (added os)
+adds-are [] = refl
+adds-are (AddAssign d s ∷ os) = omega (arith, adds-are os)
+adds-are (MulAssign d c ∷ os) = omega (arith, adds-are os)
+adds-are (FMA d s c ∷ os) = omega (arith, adds-are os)
+
+pub muls-are : (os : List Op) → total muls os ≡ length (multiplied os)
+muls-are [] = refl
+muls-are (AddAssign d s ∷ os) = omega (arith, muls-are os)
+muls-are (MulAssign d c ∷ os) = omega (arith, muls-are os)
+muls-are (FMA d s c ∷ os) = omega (arith, muls-are os)
+
+total-append : (f : Op → ℕ) (os ps : List Op) → total f (os ++ ps) ≡ total f os + total f ps
+total-append f [] ps = sym (zero-add (total f ps))
+total-append f (o ∷ os) ps = omega (arith, total-append f os ps)
+
+-- each count is that of the phase's part
+pub counts-are : (order : List ℕ) (r : Run)
+    → (ending r (solved order) .additions ≡ length (added (r .one)) ∷ length (added (r .two)) ∷ length (added (r .three)) ∷ length (added (r .four)) ∷ length (added (r .five)) ∷ [])
+    × (ending r (solved order) .multiplications ≡ length (multiplied (r .one)) ∷ length (multiplied (r .two)) ∷ length (multiplied (r .three))
+    ∷ length (multiplied (r .four)) ∷ length (multiplied (r .five)) ∷ [])
+counts-are order r = (
+  cc (adds-are (r .one), adds-are (r .two), adds-are (r .three), adds-are (r .four), adds-are (r .five)),
+  cc (muls-are (r .one), muls-are (r .two), muls-are (r .three), muls-are (r .four), muls-are (r .five)),
+)
+
+abbrev sum : List ℕ → ℕ
+sum [] = 0
+sum (x ∷ xs) = x + sum xs
+
+pub counts-sum : (f : Op → ℕ) (r : Run) → sum (counts f r) ≡ total f (whole r)
+counts-sum f r =
+    omega (
+      arith,
+      total-append f (r .one ++ r .two ++ r .three ++ r .four) (r .five),
+      total-append f (r .one ++ r .two ++ r .three) (r .four),
+      total-append f (r .one ++ r .two) (r .three),
+      total-append f (r .one) (r .two),
+    )
+
+pub counts-none : (room : ℕ) (r : Run) → answer room r .number ≢ 0 → (answer room r .additions ≡ no-counts) × (answer room r .multiplications ≡ no-counts)
+counts-none room r n = full (ltb room (length (whole r))) n
+  where
+    at-end : (e : End) → ending r e .number ≢ 0 → (ending r e .additions ≡ no-counts) × (ending r e .multiplications ≡ no-counts)
+    at-end (solved order) n = absurd (n refl)
+    at-end no-pivot n = (refl, refl)
+    at-end (singular x) n = (refl, refl)
+
+    full : (b : Bool) → cond b ListFull (ending r (r .end)) .number ≢ 0
+        → (cond b ListFull (ending r (r .end)) .additions ≡ no-counts) × (cond b ListFull (ending r (r .end)) .multiplications ≡ no-counts)
+    full true n = (refl, refl)
+    full false n = at-end (r .end) n

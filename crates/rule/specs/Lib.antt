@@ -1,0 +1,14 @@
+pub mod Lists
+pub mod Permitted
+pub mod Rule
+pub mod Ties
+pub mod Sets
+pub mod Alike
+pub mod Ground
+pub mod Labels
+pub mod Chosen
+pub mod Singles
+pub mod Step
+pub mod Arrange
+pub mod Places
+pub mod Reached

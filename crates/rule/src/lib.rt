@@ -1,0 +1,1 @@
+// How phase one chooses a row and its columns, and what RFC 6330 permits there: nothing runs here.
