@@ -12,6 +12,7 @@ use lib.ListN.{length, set, replicate}
 use Rattle.loops.specs.Loop.{forTo, up}
 use Rattle.loops.specs.Way.{forWay}
 use Rattle.octet.specs.Octet.{add, times, product, rest, mul, squares, inverse}
+use Rattle.oplist.specs.Count.{adds, muls}
 use Rattle.oplist.specs.declared.Op.the-variants.{AddAssign, MulAssign, FMA}
 use Rattle.phases.specs.System.{Shape, range, combined}
 use Rattle.phases.specs.One.{phase-one}
@@ -114,10 +115,11 @@ unfolding forTo up
 block-takes = refl
 
 block-goes-on : solve 1000 true block block-octets ≡ Solved [] (7 ∷ range 0 7 ++ range 17 10 ++ range 8 9) no-counts no-counts
-unfolding add times product rest mul squares inverse forTo up forWay
+unfolding add times product rest mul squares inverse forTo up forWay adds muls
 block-goes-on = refl
 
 pub small : Small
+unfolding adds muls
 small = record {
   empty-list = ap (answer 1000) run-plain;
   one-scaling = ap (answer 1000) run-scaling;

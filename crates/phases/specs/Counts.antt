@@ -15,7 +15,8 @@ use lib.Dec.{ltb}
 use lib.ListN.{length}
 use Rattle.oplist.specs.declared.Op.{Op}
 use Rattle.oplist.specs.declared.Op.the-variants.{AddAssign, MulAssign, FMA}
-use Rattle.phases.specs.Run.{Run, End, solved, no-pivot, singular, whole, adds, muls, total, counts, no-counts, ListFull, ending, answer}
+use Rattle.oplist.specs.Count.{adds, muls, adds-append, muls-append}
+use Rattle.phases.specs.Run.{Run, End, solved, no-pivot, singular, whole, counts, no-counts, ListFull, ending, answer}
 
 -- the AddAssign and FMA entries of a list, and its MulAssign and FMA entries
 abbrev pub added : List Op → List Op
@@ -30,21 +31,19 @@ multiplied (AddAssign d s ∷ os) = multiplied os
 multiplied (MulAssign d c ∷ os) = MulAssign d c ∷ multiplied os
 multiplied (FMA d s c ∷ os) = FMA d s c ∷ multiplied os
 
-pub adds-are : (os : List Op) → total adds os ≡ length (added os)
+pub adds-are : (os : List Op) → adds os ≡ length (added os)
+unfolding adds
 adds-are [] = refl
 adds-are (AddAssign d s ∷ os) = omega (arith, adds-are os)
 adds-are (MulAssign d c ∷ os) = omega (arith, adds-are os)
 adds-are (FMA d s c ∷ os) = omega (arith, adds-are os)
 
-pub muls-are : (os : List Op) → total muls os ≡ length (multiplied os)
+pub muls-are : (os : List Op) → muls os ≡ length (multiplied os)
+unfolding muls
 muls-are [] = refl
 muls-are (AddAssign d s ∷ os) = omega (arith, muls-are os)
 muls-are (MulAssign d c ∷ os) = omega (arith, muls-are os)
 muls-are (FMA d s c ∷ os) = omega (arith, muls-are os)
-
-total-append : (f : Op → ℕ) (os ps : List Op) → total f (os ++ ps) ≡ total f os + total f ps
-total-append f [] ps = sym (zero-add (total f ps))
-total-append f (o ∷ os) ps = omega (arith, total-append f os ps)
 
 -- each count is that of the phase's part
 pub counts-are : (order : List ℕ) (r : Run)
@@ -60,15 +59,18 @@ abbrev sum : List ℕ → ℕ
 sum [] = 0
 sum (x ∷ xs) = x + sum xs
 
-pub counts-sum : (f : Op → ℕ) (r : Run) → sum (counts f r) ≡ total f (whole r)
-counts-sum f r =
+sums : (f : List Op → ℕ) → ((os ps : List Op) → f (os ++ ps) ≡ f os + f ps) → (r : Run) → sum (counts f r) ≡ f (whole r)
+sums f join r =
     omega (
       arith,
-      total-append f (r .one ++ r .two ++ r .three ++ r .four) (r .five),
-      total-append f (r .one ++ r .two ++ r .three) (r .four),
-      total-append f (r .one ++ r .two) (r .three),
-      total-append f (r .one) (r .two),
+      join (r .one ++ r .two ++ r .three ++ r .four) (r .five),
+      join (r .one ++ r .two ++ r .three) (r .four),
+      join (r .one ++ r .two) (r .three),
+      join (r .one) (r .two),
     )
+
+pub counts-sum : (r : Run) → (sum (counts adds r) ≡ adds (whole r)) × (sum (counts muls r) ≡ muls (whole r))
+counts-sum r = (sums adds adds-append r, sums muls muls-append r)
 
 pub counts-none : (room : ℕ) (r : Run) → answer room r .number ≢ 0 → (answer room r .additions ≡ no-counts) × (answer room r .multiplications ≡ no-counts)
 counts-none room r n = full (ltb room (length (whole r))) n

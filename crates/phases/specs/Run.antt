@@ -13,7 +13,7 @@ use lib.ListN.{length}
 use Rattle.loops.specs.Out.{Out}
 use Rattle.loops.specs.Way.{Way, go, halt}
 use Rattle.oplist.specs.declared.Op.{Op}
-use Rattle.oplist.specs.declared.Op.the-variants.{AddAssign, MulAssign, FMA}
+use Rattle.oplist.specs.Count.{adds, muls}
 use Rattle.phases.specs.System.{Shape, octet-rows}
 use Rattle.phases.specs.One.{Step, Phase, rows-of, pivots-of, phase-one, ops-one}
 use Rattle.phases.specs.Two.{Second, acts, working, forward, backward}
@@ -79,22 +79,8 @@ module _ (z : Shape) (A : ℕ → ℕ → ℕ) where
   defined wide = let p : Phase = phase-one A z in cond (goes-on wide (p .now .cols)) (second p) (refused p)
 
 -- AddAssign and FMA are additions; MulAssign and FMA are multiplications
-abbrev pub adds : Op → ℕ
-adds (AddAssign d s) = 1
-adds (MulAssign d c) = 0
-adds (FMA d s c) = 1
-
-abbrev pub muls : Op → ℕ
-muls (AddAssign d s) = 0
-muls (MulAssign d c) = 1
-muls (FMA d s c) = 1
-
-abbrev pub total : (Op → ℕ) → List Op → ℕ
-total f [] = 0
-total f (o ∷ os) = f o + total f os
-
-abbrev pub counts : (Op → ℕ) → Run → List ℕ
-counts f r = total f (r .one) ∷ total f (r .two) ∷ total f (r .three) ∷ total f (r .four) ∷ total f (r .five) ∷ []
+abbrev pub counts : (List Op → ℕ) → Run → List ℕ
+counts f r = f (r .one) ∷ f (r .two) ∷ f (r .three) ∷ f (r .four) ∷ f (r .five) ∷ []
 
 -- an answer's number, and what it gives: the list, the order, the counts by phase, the vector
 pub record Answer : Type 0 where
