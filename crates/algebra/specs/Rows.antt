@@ -1,5 +1,16 @@
--- Row operations. A column of M rows is a function of the row; what stands past the last row is never touched. An operation acts on each column by itself,
--- so a matrix and a slab are columns side by side.
+-- Row operations. A column of rows is a function of the row. An operation acts on each column by itself, so a matrix and a slab are columns side by side.
+--   Good                    the operation can be undone: dest is not src, and MulAssign's scalar is an octet that is not zero
+--   put v d y, column A j   the column with y in row d; column j of a matrix
+--   value, step, run, runs  what an operation writes; a column after an operation, after a list; a matrix after a list
+--   inverse, undo           the operation that undoes one; the list that undoes one, last operation first
+--   step-octet, run-octet   octets stay octets
+--   back, forth             an operation and what undoes it, and the other way round, change nothing
+--   undo-run, run-undo      a list and its undo, and the other way round, change nothing
+--   good-undo, within-undo  what undoes a good list is good, within the same rows
+--   run-append              two lists after each other
+--   step-local, run-local   rows below m depend on rows below m only
+--   run-zero                zeros stay zeros
+--   times, run-times        a matrix times a column, through which operations pass
 -- Assumes nothing.
 use mathlib.Core.Path.{_≡_, refl, sym, ap, ap₂, _∙_, fun-ext}
 use mathlib.Core.Logic.{_≢_}
@@ -14,21 +25,14 @@ use Rattle.octet.specs.Field.{add-octet, add-zero, inv-mul, inv-octet, mul-octe
 use Rattle.oplist.specs.declared.Op.{Op}
 use Rattle.oplist.specs.declared.Op.the-variants.{AddAssign, MulAssign, FMA}
 use Rattle.oplist.specs.Ops.{dest, Each, each-append}
+pub use Rattle.oplist.specs.Ops.{Within}
 use Rattle.algebra.specs.Sums.{pick, pick-eq, pick-ne, dot, dot-add, dot-mul}
 
--- dest and src differ, and MulAssign's scalar is an octet that is not zero
 abbrev pub Good : Op → Type 0
 Good (AddAssign d s) = s ≢ d
 Good (MulAssign d c) = Octet c × (c ≢ 0)
 Good (FMA d s c) = s ≢ d
 
--- rows below m
-abbrev pub Within : ℕ → Op → Type 0
-Within m (AddAssign d s) = (d < m) × (s < m)
-Within m (MulAssign d c) = (d < m) × (d < m)
-Within m (FMA d s c) = (d < m) × (s < m)
-
--- the column with y in row d
 abbrev pub put : (ℕ → ℕ) → ℕ → ℕ → ℕ → ℕ
 put v d y r = pick (eqb r d) y (v r)
 
@@ -45,11 +49,9 @@ put-back v d y z e = fun-ext (λ r. at r (eqb r d) refl)
     at r true q = e ∙ ap v (sym (eqb-true r d q))
     at r false q = refl
 
--- column j of a matrix, which is a function of row and column
 abbrev pub column : (ℕ → ℕ → ℕ) → ℕ → ℕ → ℕ
 column A j r = A r j
 
--- what the operation puts into its row
 abbrev pub value : Op → (ℕ → ℕ) → ℕ
 value (AddAssign d s) v = add (v d) (v s)
 value (MulAssign d c) v = mul c (v d)
@@ -71,7 +73,6 @@ abbrev pub undo : List Op → List Op
 undo [] = []
 undo (o ∷ os) = undo os ++ (inverse o ∷ [])
 
--- octets stay octets
 value-octet : (o : Op) (v : ℕ → ℕ) → Octets v → Octet (value o v)
 value-octet (AddAssign d s) v h = add-octet (v d) (v s) (h d) (h s)
 value-octet (MulAssign d c) v h = mul-octet c (v d)
@@ -88,7 +89,6 @@ pub run-octet : (os : List Op) (v : ℕ → ℕ) → Octets v → Octets (run os
 run-octet [] v h = h
 run-octet (o ∷ os) v h = run-octet os (step o v) (step-octet o v h)
 
--- ---- undo
 pub back : (o : Op) (v : ℕ → ℕ) → Good o → Octets v → step (inverse o) (step o v) ≡ v
 back (AddAssign d s) v g h =
     let n : ℕ = add (v d) (v s) in
@@ -122,7 +122,6 @@ undo-run (o ∷ os) v g h =
     ∙ ap (λ (w : ℕ → ℕ). step (inverse o) w) (undo-run os (step o v) (g .1) (step-octet o v h))
     ∙ back o v (g .0) h
 
--- the undo of a good list is good
 good-inverse : (o : Op) → Good o → Good (inverse o)
 good-inverse (AddAssign d s) g = g
 good-inverse (MulAssign d c) g = (inv-octet c, nonzero)
@@ -145,7 +144,6 @@ run-undo (o ∷ os) v g h =
     ∙ ap (λ (u : ℕ → ℕ). run os u) (forth o w (g .0) (run-octet (undo os) v h))
     ∙ run-undo os v (g .1) h
 
--- ---- only the rows below m are read and written
 pub step-local : (m : ℕ) (o : Op) (v w : ℕ → ℕ) → Within m o → ((r : ℕ) → r < m → v r ≡ w r) → (r : ℕ) → r < m → step o v r ≡ step o w r
 step-local m o v w b h r l = at (eqb r (dest o))
   where
@@ -173,7 +171,6 @@ within-undo m [] b = tt
 within-undo m (o ∷ os) b =
     each-append (Within m) (undo os) (inverse o ∷ []) (within-undo m os (b .1)) (within-inverse m o (b .0), tt)
 
--- ---- zeros stay zeros
 pub run-zero : (os : List Op) → run os (λ _. 0) ≡ (λ _. 0)
 run-zero [] = refl
 run-zero (o ∷ os) = ap (λ (u : ℕ → ℕ). run os u) (fun-ext (λ r. at r (eqb r (dest o)))) ∙ run-zero os
@@ -187,12 +184,9 @@ run-zero (o ∷ os) = ap (λ (u : ℕ → ℕ). run os u) (fun-ext (λ r. at r (
     at r true = val o
     at r false = refl
 
--- ---- operations pass through the product with a column x
--- the matrix after the operations
 abbrev pub runs : List Op → (ℕ → ℕ → ℕ) → ℕ → ℕ → ℕ
 runs os A r j = run os (column A j) r
 
--- the product
 abbrev pub times : ℕ → (ℕ → ℕ → ℕ) → (ℕ → ℕ) → ℕ → ℕ
 times n A x r = dot n (A r) x
 

@@ -1,4 +1,9 @@
--- The vector of a Singular answer: where column p has no pivot, 1 at p, 0 at later columns, and the rest by substitution, is sent to zeros.
+-- The vector of a Singular answer: where column p has no pivot, it is 1 at p, 0 at later columns, and the rest by substitution.
+--   Stuck         the first p rows are an upper triangle with ones on the diagonal, and the rows from p on have no nonzero up to column p
+--   Substituted   the vector of a stuck matrix
+--   sent          a stuck matrix sends its vector to zeros
+--   singular      put back in the matrix's own order of columns, the vector is sent to zeros, and is not all zeros
+--   never         a matrix that sends such a vector to zeros is reduced by no list
 -- Assumes nothing.
 use mathlib.Core.Path.{_≡_, refl, sym, ap, ap₂, _∙_}
 use mathlib.Core.Logic.{_≢_}
@@ -13,13 +18,12 @@ use Rattle.octet.specs.Field.{add-self, add-zero, zero-mul, zero-add, mul-zero,
 use Rattle.oplist.specs.declared.Op.{Op}
 use Rattle.algebra.specs.Sums.{pick, delta, dot, sum-ext, sum-zero, dot-add}
 use Rattle.algebra.specs.Solve.{Makes, Reduces, dot-unit, injective}
-use Rattle.algebra.specs.Order.{Held, held-kernel}
+use Rattle.algebra.specs.Order.{Arranged, arranged-kernel}
 
 -- what stands right of the diagonal in row i
 abbrev pub right : (ℕ → ℕ → ℕ) → ℕ → ℕ → ℕ
 right W i j = pick (ltb i j) (W i j) 0
 
--- the first p rows are an upper triangle with ones on the diagonal, and the rows from p have no nonzero up to column p
 pub record Stuck (m n p : ℕ) (W : ℕ → ℕ → ℕ) : Type 0 where
   pub column : p < n
   pub one : (i : ℕ) → i < p → W i i ≡ 1
@@ -64,17 +68,15 @@ sent m n p W x K S i l = at (ltb i p) refl
     at true e = upper (ltb-true i p e)
     at false e = lower (ltb-false i p e)
 
--- put back in the matrix's own column order, the vector is sent to zeros, and is not all zeros
-pub singular : (m n p : ℕ) (os : List Op) (A W : ℕ → ℕ → ℕ) (rd rd′ c c′ : ℕ → ℕ) → Held m n os A W rd rd′ c c′
+pub singular : (m n p : ℕ) (os : List Op) (A W : ℕ → ℕ → ℕ) (rd rd′ c c′ : ℕ → ℕ) → Arranged m n os A W rd rd′ c c′
     → (x y : ℕ → ℕ) → Stuck m n p W → Substituted n p W x
     → ((j : ℕ) → j < n → y (c j) ≡ x j) → Makes m n A y (λ _. 0) × (c p < n) × (y (c p) ≡ 1)
 singular m n p os A W rd rd′ c c′ H x y K S e = (
-  held-kernel m n os A W rd rd′ c c′ H x y e (sent m n p W x K S),
+  arranged-kernel m n os A W rd rd′ c c′ H x y e (sent m n p W x K S),
   H .cols .into p (K .column),
   e p (K .column) ∙ S .one,
 )
 
--- so no list reduces the matrix of a Singular answer
 pub never : (m n : ℕ) (os : List Op) (A : ℕ → ℕ → ℕ) (order y : ℕ → ℕ) (k : ℕ) → Octets y
     → Makes m n A y (λ _. 0) → k < n → y k ≡ 1 → Reduces m n os A order → ⊥
 never m n os A order y k hy h l e R =

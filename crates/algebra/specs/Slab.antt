@@ -1,4 +1,10 @@
--- Demand 3, C-7 and C-9 for lists of bytes: the slab is one list of m rows of w bytes, a set of intermediate symbols one list of n rows of w bytes.
+-- What a solved call means for lists of bytes: the slab is one list of m rows of w bytes, a set of intermediate symbols one list of n rows of w bytes.
+--   tab n f            the list f 0, .., f (n - 1)
+--   through            the rows of a slab that the order names, in its order
+--   Source             a set of symbols makes the slab: the matrix times the set is the slab
+--   solved             after a list that reduces the matrix, the slab read through the order is the set that makes it
+--   only               no other set makes it
+--   Agrees, agrees-if, agrees-only-if, report   rows that the order does not name are zeros exactly if some set makes the slab
 -- Assumes nothing.
 use mathlib.Core.Path.{_≡_, refl, sym, ap, ap₂, _∙_, subst}
 use mathlib.Core.Logic.{_↔_}
@@ -17,7 +23,6 @@ use Rattle.algebra.specs.Rows.{Good, Within, run, run-octet}
 use Rattle.algebra.specs.Solve.{Unnamed, Makes, Reduces, recovered, agrees, makes}
 use Rattle.algebra.specs.Flat.{Bytes, view, acts, view-acts, acts-bytes, by-columns}
 
--- f 0, .., f (n - 1)
 abbrev pub tab : ℕ → (ℕ → ℕ) → List ℕ
 tab zero f = []
 tab (suc n) f = f 0 ∷ tab n (λ k. f (suc k))
@@ -36,7 +41,7 @@ tab-bytes zero f h i = lit< tt
 tab-bytes (suc n) f h zero = h 0
 tab-bytes (suc n) f h (suc i) = tab-bytes n (λ k. f (suc k)) (λ k. h (suc k)) i
 
--- the slab read through the order: row j of the set is row `order j` of the slab
+-- row j is row `order j` of the slab
 unfoldable pub through : ℕ → ℕ → (ℕ → ℕ) → List ℕ → List ℕ
 through n w order l = tab (n * w) (λ k. getD l (order (k / w) * w + k % w) 0)
 
@@ -48,7 +53,6 @@ view-through n w order l t j ht hj =
     (mul-add-div-right (omega arith) j t ∙ ap (λ (z : ℕ). j + z) (div-eq-of-lt ht) ∙ add-zero j)
     (mul-add-mod-self-right j w t ∙ mod-eq-of-lt ht)
 
--- C, n rows of w bytes, makes the slab D: the matrix times C is D
 pub record Source (m n w : ℕ) (A : ℕ → ℕ → ℕ) (C D : List ℕ) : Type 0 where
   pub size : length C ≡ n * w
   pub bytes : Bytes C
@@ -56,7 +60,6 @@ pub record Source (m n w : ℕ) (A : ℕ → ℕ → ℕ) (C D : List ℕ) : Typ
 
 module _ (m n w : ℕ) (os : List Op) (A : ℕ → ℕ → ℕ) (order : ℕ → ℕ) (R : Reduces m n os A order) (hw : 0 < w)
     (D : List ℕ) (zD : length D ≡ m * w) (bD : Bytes D) where
-  -- demand 3: the slab read through the order is that set
   pub solved : (C : List ℕ) → Source m n w A C D → through n w order (acts w os D) ≡ C
   unfolding through
   solved C S =
@@ -65,11 +68,9 @@ module _ (m n w : ℕ) (os : List Op) (A : ℕ → ℕ → ℕ) (order : ℕ →
       ∙ ap (λ (u : ℕ → ℕ). u (order j)) (view-acts m w os D zD (R .within) t ht)
       ∙ recovered m n os A order R (view w t C) (view w t D) (λ i. S .bytes (i * w + t)) (S .makes t ht) j hj)
 
-  -- and no other set makes it
   pub only : (C E : List ℕ) → Source m n w A C D → Source m n w A E D → C ≡ E
   only C E S U = sym (solved C S) ∙ solved E U
 
-  -- C-9: rows that the order does not name are zeros
   abbrev pub Agrees : Type 0
   Agrees = (r : ℕ) → r < m → Unnamed n order r → (t : ℕ) → t < w → getD (acts w os D) (r * w + t) 0 ≡ 0
 

@@ -1,5 +1,12 @@
--- What a solved call means: an undoable list that turns the matrix into the identity, in the order's rows, and zero rows.
--- m rows, n columns. D is one column of received symbols, x one column of intermediate symbols.
+-- What a solved call means. m rows, n columns; D is one column of received symbols, x one column of intermediate symbols.
+--   Unnamed            the order does not name the row
+--   Makes m n A x D    the matrix times x is D
+--   Reduces            a list that can be undone turns the matrix into the identity, in the order's rows, and zero rows
+--   recovered          then the column D after the list, read through the order, is the x that makes D
+--   unique, injective  no other x makes D; only zeros make zeros
+--   agrees, makes, agrees-iff   rows that the order does not name become zeros exactly if some x makes D, and then what is read makes D
+--   same-set           two lists that reduce one matrix give the same x
+--   kernel-forth, kernel-back   a list keeps what is sent to zeros, both ways
 -- Assumes nothing.
 use mathlib.Core.Path.{_≡_, refl, sym, ap, _∙_}
 use mathlib.Core.Logic.{_≢_, _↔_, _⊎_, inl, inr}
@@ -17,7 +24,6 @@ use Rattle.oplist.specs.Ops.{Each}
 use Rattle.algebra.specs.Sums.{pick-eq, pick-ne, delta, dot, sum-one, sum-zero, dot-octet}
 use Rattle.algebra.specs.Rows.{Good, Within, run, runs, column, times, undo, run-times, run-local, run-zero, run-octet, undo-run, within-undo}
 
--- row r is none of the order's
 abbrev pub Unnamed : ℕ → (ℕ → ℕ) → ℕ → Type 0
 Unnamed n order r = (j : ℕ) → j < n → order j ≢ r
 
@@ -38,11 +44,9 @@ search-order (suc n) order r = next (search-order n order r) (eqb (order n) r) r
         last j l true q = λ z. eqb-false (order n) r e (ap order (sym (eqb-true j n q)) ∙ z)
         last j l false q = let k : j ≢ n = eqb-false j n q in u j (omega arith)
 
--- x makes the received column D
 abbrev pub Makes : ℕ → ℕ → (ℕ → ℕ → ℕ) → (ℕ → ℕ) → (ℕ → ℕ) → Type 0
 Makes m n A x D = (r : ℕ) → r < m → times n A x r ≡ D r
 
--- the list turns the matrix into the identity, in the order's rows, and zero rows
 pub record Reduces (m n : ℕ) (os : List Op) (A : ℕ → ℕ → ℕ) (order : ℕ → ℕ) : Type 0 where
   pub good : Each Good os
   pub within : Each (Within m) os
@@ -77,16 +81,13 @@ module _ (m n : ℕ) (os : List Op) (A : ℕ → ℕ → ℕ) (order : ℕ → �
   pub unique : (x y D : ℕ → ℕ) → Octets x → Octets y → Makes m n A x D → Makes m n A y D → (j : ℕ) → j < n → x j ≡ y j
   unique x y D hx hy p q j l = sym (recovered x D hx p j l) ∙ recovered y D hy q j l
 
-  -- (e) only zeros are sent to zeros
   pub injective : (x : ℕ → ℕ) → Octets x → Makes m n A x (λ _. 0) → (j : ℕ) → j < n → x j ≡ 0
   injective x hx h j l =
       sym (recovered x (λ _. 0) hx h j l) ∙ ap (λ (u : ℕ → ℕ). u (order j)) (run-zero os)
 
-  -- (d) rows that the order does not name are zeros, if some x makes D
   pub agrees : (x D : ℕ → ℕ) → Makes m n A x D → (r : ℕ) → r < m → Unnamed n order r → run os D r ≡ 0
   agrees x D h r l un = finished x D h r l ∙ dot-none n (runs os A r) x (R .clear r l un)
 
-  -- and if they are, the finished column read through the order makes D
   pub makes : (D : ℕ → ℕ) → Octets D → ((r : ℕ) → r < m → Unnamed n order r → run os D r ≡ 0)
       → Makes m n A (λ j. run os D (order j)) D
   makes D hD z r l =
@@ -110,19 +111,16 @@ module _ (m n : ℕ) (os : List Op) (A : ℕ → ℕ → ℕ) (order : ℕ → �
       same : (i : ℕ) → i < m → run os (times n A x) i ≡ run os D i
       same i q = ap (λ (u : ℕ → ℕ). u i) (run-times n os A x) ∙ row i q (search-order n order i)
 
-  -- (d) as one statement
   pub agrees-iff : (D : ℕ → ℕ) → Octets D
       → ((x : ℕ → ℕ) × Octets x × Makes m n A x D) ↔ ((r : ℕ) → r < m → Unnamed n order r → run os D r ≡ 0)
   agrees-iff D hD =
       (λ w. agrees (w .0) D (w .2), λ z. (λ j. run os D (order j), λ j. run-octet os D hD (order j), makes D hD z))
 
--- C-7: two lists, two orders, one set
 pub same-set : (m n : ℕ) (os ps : List Op) (A : ℕ → ℕ → ℕ) (o p : ℕ → ℕ) → Reduces m n os A o → Reduces m n ps A p
     → (x D : ℕ → ℕ) → Octets x → Makes m n A x D → (j : ℕ) → j < n → run os D (o j) ≡ run ps D (p j)
 same-set m n os ps A o p R S x D hx h j l =
     recovered m n os A o R x D hx h j l ∙ sym (recovered m n ps A p S x D hx h j l)
 
--- (e) row operations keep what is sent to zeros
 module _ (m n : ℕ) (os : List Op) (A : ℕ → ℕ → ℕ) (g : Each Good os) (b : Each (Within m) os) where
   pub kernel-forth : (x : ℕ → ℕ) → Makes m n A x (λ _. 0) → Makes m n (runs os A) x (λ _. 0)
   kernel-forth x h r l =

@@ -1,4 +1,8 @@
 -- As many rows as columns: the order names every row, so that such a system always agrees.
+--   Apart n f    f tells the numbers below n apart
+--   too-many     n + 1 numbers do not go apart into n places
+--   distinct     the rows of the order of a reducing list are distinct
+--   named-all    with m = n no row is unnamed
 -- Assumes nothing.
 use mathlib.Core.Path.{_≡_, refl, sym, ap, _∙_}
 use mathlib.Core.Logic.{_≢_}
@@ -14,11 +18,9 @@ use Rattle.oplist.specs.declared.Op.{Op}
 use Rattle.algebra.specs.Rows.{runs}
 use Rattle.algebra.specs.Solve.{Unnamed, Reduces}
 
--- f tells the numbers below n apart
 abbrev pub Apart : ℕ → (ℕ → ℕ) → Type 0
 Apart n f = (i j : ℕ) → i < n → j < n → f i ≡ f j → i ≡ j
 
--- n + 1 numbers do not go apart into n places
 pub too-many : (n : ℕ) (f : ℕ → ℕ) → ((i : ℕ) → i < suc n → f i < n) → Apart (suc n) f → ⊥
 too-many zero f into apart = not-suc-le-zero (into 0 (omega arith))
 too-many (suc n) f into apart =
@@ -44,7 +46,6 @@ too-many (suc n) f into apart =
     same i j p q false x false y e = apart i j (omega arith) (omega arith) e
 
 module _ (m n : ℕ) (os : List Op) (A : ℕ → ℕ → ℕ) (order : ℕ → ℕ) (R : Reduces m n os A order) where
-  -- the order's rows are distinct
   pub distinct : Apart n order
   distinct j k p q e = at (eqb j k) refl
     where

@@ -1,4 +1,8 @@
--- Finite sums and the product of a row and a column.
+-- Finite sums of octets, and a row times a column.
+--   pick, pick-eq, pick-ne   one of two numbers, by a test
+--   delta i j                1 where the two are equal, else 0
+--   sum n f, dot n a x       f 0 + .. + f (n - 1); a 0 x 0 + .. + a (n - 1) x (n - 1)
+--   sum-.., dot-..           their laws: entry by entry, all zeros, one term, sums, multiples, two sums exchanged
 -- Assumes nothing.
 use mathlib.Core.Path.{_≡_, refl, sym, ap, ap₂, _∙_}
 use mathlib.Core.Logic.{_≢_}
@@ -21,11 +25,9 @@ pick-eq i j a b e = ap (λ (t : Bool). pick t a b) (eq-eqb i j e)
 pub pick-ne : (i j a b : ℕ) → i ≢ j → pick (eqb i j) a b ≡ b
 pick-ne i j a b e = ap (λ (t : Bool). pick t a b) (ne-eqb i j e)
 
--- 1 where the two are equal, else 0
 abbrev pub delta : ℕ → ℕ → ℕ
 delta i j = pick (eqb i j) 1 0
 
--- f 0 + .. + f (n - 1)
 abbrev pub sum : ℕ → (ℕ → ℕ) → ℕ
 sum zero f = 0
 sum (suc n) f = add (sum n f) (f n)
@@ -56,7 +58,6 @@ pub sum-mul : (n c : ℕ) (f : ℕ → ℕ) → sum n (λ j. mul c (f j)) ≡ mu
 sum-mul zero c f = sym (mul-comm c 0 ∙ zero-mul c)
 sum-mul (suc n) c f = ap (λ (z : ℕ). add z (mul c (f n))) (sum-mul n c f) ∙ sym (mul-add c (sum n f) (f n))
 
--- one term only
 pub sum-one : (n : ℕ) (f : ℕ → ℕ) (i : ℕ) → i < n → ((j : ℕ) → j < n → j ≢ i → f j ≡ 0) → sum n f ≡ f i
 sum-one zero f i l h = absurd (not-suc-le-zero l)
 sum-one (suc n) f i l h = last (λ (k : i < n). sum-one n f i k (λ j q. h j (omega arith))) (eqb n i) refl
@@ -69,7 +70,6 @@ sum-one (suc n) f i l h = last (λ (k : i < n). sum-one n f i k (λ j q. h j (om
         let m : n ≢ i = eqb-false n i e in
         ap₂ (λ (x y : ℕ). add x y) (rec (omega arith)) (h n (omega arith) m) ∙ add-zero (f i)
 
--- the order of two sums
 pub sum-swap : (n m : ℕ) (f : ℕ → ℕ → ℕ) → sum n (λ i. sum m (λ j. f i j)) ≡ sum m (λ j. sum n (λ i. f i j))
 sum-swap zero m f = sym (sum-zero m (λ j. 0) (λ j l. refl))
 sum-swap (suc n) m f =

@@ -1,0 +1,4 @@
+pub mod First
+pub mod Exchange
+pub mod Sweep
+pub mod Parts

@@ -1,0 +1,62 @@
+use Rattle.grid.specs.Grid.{fill-row}
+use mathlib.Core.Path.{_≡_, refl, sym, ap, _∙_}
+use Prim.Native.Nat.{_+_, _-_, _≤_, _<_}
+use lib.ListN.{length, drop}
+use Rattle.rule.specs.Permitted.{count}
+use Rattle.grid.specs.Grid.{bit, Filled, fill-start, fill-next, fill-end, row-within}
+use native.Mathlib.Omega.{arith}
+use borrow.Author.Needs.{needs}
+use Rattle.grid.proofs.counts.Statement.{statement}
+use Rattle.grid.proofs.counts.Tie as tie
+use Rattle.grid.proofs.counts.Reads as reads
+use Rattle.grid.proofs.counts.Lts as lts
+use Rattle.grid.proofs.count.Reads as count-reads
+
+abbrev Inv-loop : tie.InvT-loop
+Inv-loop bits l v figures₀ x₀ figures x = Filled (count (bit l bits) v) (length figures₀) x figures
+
+abbrev μ-loop : tie.MeasureT-loop
+μ-loop bits l v figures₀ x₀ figures x = length figures₀ - x
+
+loop-holds : tie.Need-loop-holds Inv-loop μ-loop
+loop-holds c = fill-start _ _
+
+count-requires : tie.Need-count-requires Inv-loop μ-loop
+count-requires c κs = (fill-row _ _ (c .before .loop .inv) (c .loop-test .taken) (c .before .before .before .before .before .pre .0), c .before .before .before .before .before .pre .1)
+
+mul-figures : tie.Need-mul-figures Inv-loop μ-loop
+mul-figures c = search needs
+
+slice-write-figures : tie.Need-slice-write-figures Inv-loop μ-loop
+slice-write-figures c = search needs
+
+add-x : tie.Need-add-x Inv-loop μ-loop
+add-x c = search needs
+
+loop-less : tie.Need-loop-less Inv-loop μ-loop
+loop-less c = search needs
+
+loop-again : tie.Need-loop-again Inv-loop μ-loop
+loop-again c = fill-next (c .before .before .loop .inv) (c .before .loop-test .taken) (c .count .ensures)
+
+same-length : tie.Need-same-length Inv-loop μ-loop
+same-length c = search needs
+
+returns : tie.Need-returns Inv-loop μ-loop
+returns c = fill-end (c .before .loop .inv) (c .loop-test .left)
+
+pub counts-spec : {M : Type 1} → statement M
+counts-spec =
+    tie.close
+    (tie.spec
+    Inv-loop
+    μ-loop
+    loop-holds
+    count-requires
+    mul-figures
+    slice-write-figures
+    add-x
+    loop-less
+    loop-again
+    same-length
+    returns)

@@ -1,0 +1,23 @@
+use Rattle.grid.specs.Grid.{bit}
+use native.Mathlib.Omega.{arith}
+use borrow.Author.Needs.{needs}
+use Rattle.grid.proofs.has.Statement.{statement}
+use Rattle.grid.proofs.has.Tie as tie
+use Rattle.grid.proofs.has.Reads as reads
+use Rattle.grid.proofs.has.Lts as lts
+
+mul-k : tie.Need-mul-k
+mul-k c = search needs
+
+add-k : tie.Need-add-k
+add-k c = search needs
+
+shared-slice-read-result : tie.Need-shared-slice-read-result
+shared-slice-read-result c = search needs
+
+returns : tie.Need-returns
+unfolding bit
+returns c = search needs
+
+pub has-spec : {M : Type 1} → statement M
+has-spec = tie.close (tie.spec mul-k add-k shared-slice-read-result returns)

@@ -1,0 +1,5 @@
+pub mod Marks
+pub mod Again
+pub mod Gather
+pub mod Columns
+pub mod Vector

@@ -1,0 +1,140 @@
+-- Loops over the words of a list, which apply or undo one operation a turn.
+--   PlacedWord, AllPlaced   `Placed` of a word, if it is an operation's, and of every operation of a list
+--   wordOps                 the operation of a word, as a list
+--   placed-at               each word of a list that is placed is placed
+--   placed-inverse          what undoes a word's operation is placed where that is
+--   inverse-value, inverse-zero   one over an octet is its inverse; zero, which has none, stands for itself
+--   Up, Down                what a loop that applies, or that undoes, knows at its test
+--   up-start, up-next, up-end, down-start, down-next, down-end   it begins, makes a turn, is over
+-- Assumes nothing.
+use mathlib.Core.Path.{_≡_, refl, sym, ap, _∙_, subst}
+use mathlib.Core.List.{List, [], _∷_, _++_, append-nil}
+use Prim.Native.Nat.{ℕ, zero, suc, _+_, _-_, _≤_, _<_}
+use native.Mathlib.Nat.{not-suc-le-zero, le-of-suc-le-suc}
+use native.Mathlib.Omega.{arith}
+use lib.ListN.{length, getD, take, drop, drop-of-length-le}
+use lib.Seq.{take-all, drop-length}
+use Rattle.octet.specs.Octet.{add, times, product, rest, mul, squares, inverse as inv, quotient}
+use Rattle.octet.specs.declared.Octet.{Octet}
+use Rattle.octet.specs.declared.Quotient.{Quotient}
+use Rattle.octet.specs.declared.Quotient.the-variants.{Value, ZeroDivisor}
+use Rattle.octet.specs.Answers.{quotientOf, number, Divided}
+use Rattle.octet.specs.Field.{one-mul, inv-octet}
+use Rattle.oplist.specs.declared.Op.{Op}
+use Rattle.oplist.specs.declared.Op.the-variants.{AddAssign, MulAssign, FMA}
+use Rattle.oplist.specs.declared.Word.{Word}
+use Rattle.oplist.specs.declared.Word.the-variants.{Known, Unknown}
+use Rattle.oplist.specs.Ops.{Each}
+use Rattle.oplist.specs.Word.{meaning}
+use Rattle.oplist.specs.Listed.{withOp, opsOf, opsOf-take, opsOf-drop}
+use Rattle.algebra.specs.Rows.{inverse, undo}
+use Rattle.algebra.specs.Flat.{acts, acts-append}
+use Rattle.slab.specs.Placed.{Placed}
+
+abbrev pub PlacedWord : ℕ → Word → ℕ → Type 0
+PlacedWord w (Known o) n = Placed w o n
+PlacedWord w Unknown n = Unit {0}
+
+abbrev pub AllPlaced : ℕ → List Op → ℕ → Type 0
+AllPlaced w os n = Each (λ (o : Op). Placed w o n) os
+
+abbrev pub wordOps : Word → List Op
+wordOps v = withOp v []
+
+pub placed-at : (w : ℕ) (ws : List ℕ) (n : ℕ) → AllPlaced w (opsOf ws) n → (i : ℕ) → i < length ws → PlacedWord w (meaning (getD ws i 0)) n
+unfolding opsOf
+placed-at w [] n p i h = absurd (not-suc-le-zero h)
+placed-at w (x ∷ ws) n p zero h = at (meaning x) p
+  where
+    at : (v : Word) → AllPlaced w (withOp v (opsOf ws)) n → PlacedWord w v n
+    at (Known o) q = q .0
+    at Unknown q = tt
+placed-at w (x ∷ ws) n p (suc i) h = placed-at w ws n (rest (meaning x) p) i (le-of-suc-le-suc h)
+  where
+    rest : (v : Word) → AllPlaced w (withOp v (opsOf ws)) n → AllPlaced w (opsOf ws) n
+    rest (Known o) q = q .1
+    rest Unknown q = q
+
+pub placed-inverse : (w n : ℕ) {v : Word} {o : Op} → v ≡ Known o → PlacedWord w v n → Placed w (inverse o) n
+placed-inverse w n {v} {o} e p = at o (subst (λ (x : Word). PlacedWord w x n) e p)
+  where
+    at : (q : Op) → Placed w q n → Placed w (inverse q) n
+    at (AddAssign d s) h = h
+    at (MulAssign d c) h = h
+    at (FMA d s c) h = h
+
+pub inverse-value : {k : ℕ} {v : Quotient} {q : Octet} → Divided 1 k v → v ≡ Value q → q .value ≡ inv k
+unfolding quotientOf quotient
+inverse-value {k = zero} {v} {q} d e = let f = d .is in let z : _≡_ {A = ℕ} 0 1 = cc in absurd (omega arith)
+inverse-value {k = suc k} {v} {q} d e =
+    let f : record { value = quotient 1 (suc k) } ≡ q = value-one (sym (d .is) ∙ e) in
+    sym (ap (λ (x : Octet). x .value) f) ∙ one-mul (inv (suc k)) (inv-octet (suc k))
+  where
+    value-one : {x y : Octet} → Value x ≡ Value y → x ≡ y
+    value-one g = cc
+
+zero-inverse : inv 0 ≡ 0
+unfolding inv squares mul rest product times add
+zero-inverse = refl
+
+pub inverse-zero : {k : ℕ} {v : Quotient} → Divided 1 k v → v ≡ ZeroDivisor → 0 ≡ inv k
+inverse-zero {k} {v} d e = sym (ap inv (d .refused .0 (ap number e)) ∙ zero-inverse)
+
+-- i operations are applied
+pub record Up (w : ℕ) (ws s₀ s : List ℕ) (i : ℕ) : Type 0 where
+  pub within : i ≤ length ws
+  pub long : length s ≡ length s₀
+  pub is : s ≡ acts w (opsOf (take i ws)) s₀
+
+-- i operations are undone
+pub record Down (w : ℕ) (ws s₀ s : List ℕ) (i : ℕ) : Type 0 where
+  pub within : i ≤ length ws
+  pub long : length s ≡ length s₀
+  pub is : s ≡ acts w (undo (opsOf (drop (length ws - i) ws))) s₀
+
+undo-with : (v : Word) (os : List Op) → undo (withOp v os) ≡ undo os ++ undo (wordOps v)
+undo-with (Known o) os = refl
+undo-with Unknown os = sym (append-nil (undo os))
+
+module _ (w : ℕ) (ws s₀ : List ℕ) where
+  pub up-start : Up w ws s₀ s₀ 0
+  unfolding acts opsOf
+  up-start = record { within = omega arith; long = refl; is = refl }
+
+  pub up-next : {s s′ : List ℕ} {i : ℕ} → Up w ws s₀ s i → i < length ws → s′ ≡ acts w (wordOps (meaning (getD ws i 0))) s → length s′ ≡ length s
+      → Up w ws s₀ s′ (i + 1)
+  up-next {s} {s′} {i} u h e l =
+      record {
+        within = omega arith;
+        long = l ∙ u .long;
+        is = e ∙ ap (acts w (wordOps (meaning (getD ws i 0)))) (u .is) ∙ sym (acts-append w (opsOf (take i ws)) (wordOps (meaning (getD ws i 0))) s₀)
+            ∙ ap (λ (os : List Op). acts w os s₀) (sym (opsOf-take ws i h));
+      }
+
+  pub up-end : {s : List ℕ} {i : ℕ} → Up w ws s₀ s i → length ws ≤ i → s ≡ acts w (opsOf ws) s₀
+  up-end {s} {i} u h = u .is ∙ ap (λ (l : List ℕ). acts w (opsOf l) s₀) (take-all i ws h)
+
+  pub down-start : Down w ws s₀ s₀ 0
+  unfolding acts opsOf
+  down-start =
+      let e : length ws - 0 ≡ length ws = omega arith in
+      record { within = omega arith; long = refl; is = ap (λ (l : List ℕ). acts w (undo (opsOf l)) s₀) (sym (ap (λ (k : ℕ). drop k ws) e ∙ drop-length ws)) }
+
+  pub down-next : {s s′ : List ℕ} {i : ℕ} → Down w ws s₀ s i → i < length ws → s′ ≡ acts w (undo (wordOps (meaning (getD ws (length ws - 1 - i) 0)))) s → length s′ ≡ length s
+      → Down w ws s₀ s′ (i + 1)
+  down-next {s} {s′} {i} u h e l =
+      let k : ℕ = length ws - 1 - i in
+      let v = meaning (getD ws k 0) in
+      let p : length ws - i ≡ k + 1 = omega arith in
+      let q : length ws - (i + 1) ≡ k = omega arith in
+      record {
+        within = omega arith;
+        long = l ∙ u .long;
+        is = e ∙ ap (acts w (undo (wordOps v))) (u .is ∙ ap (λ (x : ℕ). acts w (undo (opsOf (drop x ws))) s₀) p)
+            ∙ sym (acts-append w (undo (opsOf (drop (k + 1) ws))) (undo (wordOps v)) s₀)
+            ∙ ap (λ (os : List Op). acts w os s₀) (sym (ap undo (opsOf-drop ws k (omega arith)) ∙ undo-with v (opsOf (drop (k + 1) ws))))
+            ∙ ap (λ (x : ℕ). acts w (undo (opsOf (drop x ws))) s₀) (sym q);
+      }
+
+  pub down-end : {s : List ℕ} {i : ℕ} → Down w ws s₀ s i → length ws ≤ i → s ≡ acts w (undo (opsOf ws)) s₀
+  down-end {s} {i} u h = let e : length ws - i ≡ 0 = omega arith in u .is ∙ ap (λ (k : ℕ). acts w (undo (opsOf (drop k ws))) s₀) e

@@ -1,0 +1,68 @@
+// The step that records an operation, with the running counts of a phase.
+ghost use mathlib.Core.Path.{_≡_};
+ghost use Rattle.oplist.specs.Word.{Small};
+ghost use Rattle.oplist.specs.Count.{addsIn, mulsIn};
+ghost use Rattle.tally.specs.Book.{book, Fair, Noted, afresh};
+use oplist::Op;
+
+// How many operations a list room holds, or one above the room; and the additions and multiplications of the phase.
+pub struct Tally {
+    pub used: usize,
+    pub adds: usize,
+    pub muls: usize,
+}
+
+fn adds_of(op: Op) -> usize
+    ensures { λ r. ⌜ r ≡ addsIn op ⌝ }
+{
+    match op {
+        Op::AddAssign(_, _) => 1,
+        Op::MulAssign(_, _) => 0,
+        Op::FMA(_, _, _) => 1,
+    }
+}
+
+fn muls_of(op: Op) -> usize
+    ensures { λ r. ⌜ r ≡ mulsIn op ⌝ }
+{
+    match op {
+        Op::AddAssign(_, _) => 0,
+        Op::MulAssign(_, _) => 1,
+        Op::FMA(_, _, _) => 1,
+    }
+}
+
+// One operation more: stored and counted where there is room, else only told by the number of those used.
+pub fn record(list: &mut [u64], t: Tally, op: Op) -> Tally
+    requires { ⌜ Small op ⌝ }
+    requires { ⌜ Fair (book (now list) t) ⌝ }
+    ensures { λ r. ⌜ Noted (book (now (list .entry)) t) op (book (now (list .exit)) r) ⌝ }
+{
+    let n = t.used;
+    let used = oplist::record(list, n, op);
+    if n < list.len() {
+        let a = adds_of(op);
+        let b = muls_of(op);
+        return Tally {
+            used,
+            adds: t.adds + a,
+            muls: t.muls + b,
+        };
+    }
+    Tally {
+        used,
+        adds: t.adds,
+        muls: t.muls,
+    }
+}
+
+// The counts begin anew.
+pub fn next_phase(t: Tally) -> Tally
+    ensures { λ r. ⌜ r ≡ afresh t ⌝ }
+{
+    Tally {
+        used: t.used,
+        adds: 0,
+        muls: 0,
+    }
+}
