@@ -2,6 +2,7 @@
 --   Unnamed            the order does not name the row
 --   Makes m n A x D    the matrix times x is D
 --   Reduces            a list that can be undone turns the matrix into the identity, in the order's rows, and zero rows
+--   dot-unit, dot-none a unit row, and a row of zeros, times a column
 --   recovered          then the column D after the list, read through the order, is the x that makes D
 --   unique, injective  no other x makes D; only zeros make zeros
 --   agrees, makes, agrees-iff   rows that the order does not name become zeros exactly if some x makes D, and then what is read makes D
@@ -72,7 +73,6 @@ module _ (m n : ℕ) (os : List Op) (A : ℕ → ℕ → ℕ) (order : ℕ → �
       run-local m os D (times n A x) (R .within) (λ i q. sym (h i q)) r l
       ∙ ap (λ (u : ℕ → ℕ). u r) (run-times n os A x)
 
-  -- (c) the finished column, read through the order, is x
   pub recovered : (x D : ℕ → ℕ) → Octets x → Makes m n A x D → (j : ℕ) → j < n → run os D (order j) ≡ x j
   recovered x D hx h j l =
       finished x D h (order j) (R .place j l)

@@ -1,7 +1,8 @@
--- What a choice gives the step that follows: an eligible row, with as many ones in V as the least.
---   chosen-least     the chosen row is eligible and has r ones in V, r the least positive number
+-- What a choice gives the step that follows.
+--   Chosen            the row is eligible, and has as many ones in V as the least that an eligible row has
+--   chosen-least      a row that the rule chooses is such a row
 -- Assumes nothing.
-use mathlib.Core.Path.{_≡_, sym, _∙_}
+use mathlib.Core.Path.{_≡_}
 use mathlib.Core.List.{List}
 use mathlib.Core.Bool.{Bool}
 use mathlib.Core.Option.{some}

@@ -1,11 +1,14 @@
 -- Searches for what is least, from the front.
---   Lowering              the least positive value so far, at place k
+--   lesser-none, lesser-only, lesser-right, lesser-left   the lesser of two numbers, where 0 is none
+--   Lowering          the least positive value so far, at place k
 --   lower-start, lower-next, lower-end    the search begins, makes a turn, is over
---   Lighter               the first member of least key so far, of those that pass, at place k
---   light-empty, light-none, light-start, light-first, light-skip, light-less, light-more, light-end   the same for it
+--   any               the test that every number passes
+--   Lighter           the first member of least key so far, of those that pass, at place k
+--   light-empty, light-none               there is none
+--   light-start, light-first              the search begins at the first, or at the first that passes
+--   light-skip, light-less, light-more, light-end         it makes a turn, is over
 -- Assumes nothing.
 use mathlib.Core.Path.{_≡_, refl, sym, ap, _∙_}
-use mathlib.Core.Logic.{_⊎_, inl, inr, ⊎-elim}
 use mathlib.Core.List.{List, [], _∷_}
 use mathlib.Core.Bool.{Bool, true, false, cond}
 use mathlib.Core.Option.{Option, some, none}
@@ -13,10 +16,9 @@ use Prim.Native.Nat.{ℕ, zero, suc, _+_, _≤_, _<_}
 use native.Mathlib.Numerals.{add-one}
 use native.Mathlib.Omega.{arith}
 use lib.ListN.{length, getD, drop}
-use lib.Dec.{ltb, eqb}
+use lib.Dec.{ltb}
 use borrow.Author.Tests.{ltb-true, ltb-false, lt-ltb, le-ltb}
-use Rattle.rule.specs.Lists.{filter, keep, lesser, leastPos, leastFrom, headLeast}
-use Rattle.rule.specs.Sets.{bool-or}
+use Rattle.rule.specs.Lists.{filter, lesser, leastPos, leastFrom, headLeast}
 use Rattle.grid.specs.Grid.{Under, to-go, gone}
 use Rattle.columns.specs.First.{firstAt, first-filter, first-none}
 

@@ -1,13 +1,14 @@
 -- How many columns of V have each label, counted in one pass; and the smallest label of the greatest size.
---   Labelled           every column of v has a label below n
---   Sizing             the first k columns of v are counted
---   size-start, size-next, size-fits, size-end    the count begins, makes a turn, stays a number of columns, is over
---   Growing            the smallest label of the greatest size, of those below c
---   grow-start, grow-next, grow-stay, grow-end    the same for it
+--   Labelled          every column of v has a label below n
+--   Sizing            the first k columns of v are counted
+--   size-start, size-next, size-fits, size-end    the count begins, makes a turn, stays below the number of columns, is over
+--   Growing           the smallest label of the greatest size, of those below c
+--   Found             that label, and the sizes in the room
+--   grow-start, grow-first, grow-next, grow-stay, grow-end    the search begins, takes the first label, a greater one, none, is over
 -- Assumes nothing.
-use mathlib.Core.Path.{_≡_, refl, sym, ap, subst, _∙_}
-use mathlib.Core.Logic.{_⊎_, inl, inr, ⊎-elim}
-use mathlib.Core.List.{List, [], _∷_}
+use mathlib.Core.Path.{_≡_, refl, sym, ap, _∙_}
+use mathlib.Core.Logic.{_⊎_, inl, inr}
+use mathlib.Core.List.{List}
 use mathlib.Core.Bool.{Bool, true, false, cond, _||_}
 use Prim.Native.Nat.{ℕ, zero, suc, _+_, _-_, _≤_, _<_}
 use native.Mathlib.Numerals.{add-one}
@@ -112,5 +113,13 @@ module _ {lab : ℕ → ℕ} {v : List ℕ} {n b c m : ℕ} {xs : List ℕ} (f :
         is = sym (biggest-next lab v c (g .from) ∙ ap (λ (x : ℕ). bigger (size lab v) x c) (sym (g .is)) ∙ rw (ne-eqb b 0 d, q));
       }
 
-pub grow-end : {lab : ℕ → ℕ} {v : List ℕ} {n b c : ℕ} → Growing lab v n b c → n ≤ c → b ≡ biggest lab v n
-grow-end {lab} {v} {n} {b} {c} g h = let e : c ≡ n = omega (arith, g .upto) in g .is ∙ ap (biggest lab v) e
+-- the label that was sought, and the room in which the sizes were counted
+pub record Found (lab : ℕ → ℕ) (v : List ℕ) (n b : ℕ) (before after : List ℕ) : Type 0 where
+  pub is : b ≡ biggest lab v n
+  pub room : Figures (size lab v) (length before) after
+
+pub grow-end : {lab : ℕ → ℕ} {v : List ℕ} {n b c : ℕ} {before after : List ℕ} → Growing lab v n b c → n ≤ c → Figures (size lab v) (length before) after
+    → Found lab v n b before after
+grow-end {lab} {v} {n} {b} {c} g h f =
+    let e : c ≡ n = omega (arith, g .upto) in
+    record { is = g .is ∙ ap (biggest lab v) e; room = f }

@@ -1,17 +1,17 @@
 // Phase one's choice of a row, with every tie, over lent lists of rows and columns and the figures that are kept of them.
 ghost use mathlib.Core.Path.{_≡_};
-ghost use mathlib.Core.Bool.{_&&_};
-ghost use Prim.Native.Nat.{ℕ, _+_, _*_, _≤_, _<_};
-ghost use lib.ListN.{length, getD, drop};
+ghost use mathlib.Core.Bool.{true, _&&_};
+ghost use Prim.Native.Nat.{_+_, _≤_, _<_};
+ghost use lib.ListN.{length, drop};
 ghost use lib.Dec.{eqb};
 ghost use Rattle.rule.specs.Lists.{filter, head, headLeast, leastPos, lesser as lesserOf};
 ghost use Rattle.rule.specs.Permitted.{count};
-ghost use Rattle.rule.specs.Rule.{size, biggest as biggestOf, node, atNode, choose as rowRule};
+ghost use Rattle.rule.specs.Rule.{size, node, atNode, choose as rowRule};
 ghost use Rattle.grid.specs.Grid.{bit, Under, Rows, Figures};
 ghost use Rattle.columns.specs.First.{firstAt};
-ghost use Rattle.choice.specs.Told.{told, Tells};
-ghost use Rattle.choice.specs.Sizes.{Labelled};
-ghost use Rattle.choice.specs.Choose.{rowOf, Ready};
+ghost use Rattle.choice.specs.Told.{told};
+ghost use Rattle.choice.specs.Sizes.{Labelled, Found};
+ghost use Rattle.choice.specs.Choose.{rowOf, Ready, Decided};
 
 // The chosen row, or that there is none.
 pub enum Choice {
@@ -142,7 +142,7 @@ fn biggest(v: &[usize], labels: &[usize], n: usize, sizes: &mut [usize]) -> usiz
     requires { ⌜ Under (length (now labels)) (now v) ⌝ }
     requires { ⌜ Labelled (told (now labels)) (now v) n ⌝ }
     requires { ⌜ (0 < n) × (n ≤ length (now sizes)) ⌝ }
-    ensures { λ r. ⌜ r ≡ biggestOf (told (now (labels .entry))) (now (v .entry)) n ⌝ }
+    ensures { λ r. ⌜ Found (told (now (labels .entry))) (now (v .entry)) n r (now (sizes .entry)) (now (sizes .exit)) ⌝ }
 {
     sizes_of(v, labels, sizes);
     let mut b = 0;
@@ -206,7 +206,7 @@ fn choose_pair(
     sizes: &mut [usize],
 ) -> Choice
     requires { ⌜ Ready l (now bits) (now v) (now e) (now ones) (now labels) n (length (now sizes)) ⌝ }
-    ensures { λ r. ⌜ rowOf r ≡ atNode (bit l (now (bits .entry))) (now (v .entry)) (now (e .entry)) (node (told (now (labels .entry))) n (now (v .entry))) ⌝ }
+    ensures { λ c. ⌜ Decided (atNode (bit l (now (bits .entry))) (now (v .entry)) (now (e .entry)) (node (told (now (labels .entry))) n (now (v .entry)))) true (told (now (labels .entry))) (now (v .entry)) c (now (sizes .entry)) (now (sizes .exit)) ⌝ }
 {
     let b = biggest(v, labels, n, sizes);
     let k = labelled(v, labels, b);
@@ -236,7 +236,7 @@ pub fn choose(
     requires { ⌜ Under (length (now deg)) (now e) ⌝ }
     requires { ⌜ Under (length (now deg)) (now s) ⌝ }
     requires { ⌜ r ≡ leastPos (count (bit l (now bits)) (now v)) (now e) ⌝ }
-    ensures { λ c. ⌜ rowOf c ≡ rowRule (bit l (now (bits .entry))) (told (now (deg .entry))) (now (v .entry)) (now (e .entry)) (now (s .entry)) (told (now (labels .entry))) n ⌝ }
+    ensures { λ c. ⌜ Decided (rowRule (bit l (now (bits .entry))) (told (now (deg .entry))) (now (v .entry)) (now (e .entry)) (now (s .entry)) (told (now (labels .entry))) n) (eqb r 2) (told (now (labels .entry))) (now (v .entry)) c (now (sizes .entry)) (now (sizes .exit)) ⌝ }
 {
     if r == 0 {
         return Choice::Nothing;

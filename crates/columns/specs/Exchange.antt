@@ -1,17 +1,19 @@
 -- Two places of a list exchanged, and what that makes of the rows and of the columns.
---   swapped i j d      d with its entries at places i and j exchanged
---   brought            the row x, exchanged with the first, stands before those that stay eligible
---   fronted            V's columns, the row's first one among the first k exchanged with the first column
+--   swapped i j d, length-swapped   d with its entries at places i and j exchanged, and as long
+--   is x              the test that finds x
+--   brought           the row x, exchanged with the first, stands before those that stay eligible
+--   exchanged         the first column that passes, exchanged with the column a that stands before them
+--   unfound           where none passes, nothing is exchanged
 -- Assumes nothing.
-use mathlib.Core.Path.{_≡_, refl, sym, ap, ap₂, subst, _∙_}
-use mathlib.Core.Logic.{_⊎_, inl, inr, ⊎-elim}
+use mathlib.Core.Path.{_≡_, refl, sym, ap, _∙_}
+use mathlib.Core.Logic.{inl, inr}
 use mathlib.Core.List.{List, [], _∷_, _++_}
 use mathlib.Core.Bool.{Bool, true, false, cond}
-use Prim.Native.Nat.{ℕ, zero, suc, _+_, _-_, _≤_, _<_}
+use Prim.Native.Nat.{ℕ, suc, _+_, _-_, _≤_, _<_}
 use native.Mathlib.Omega.{arith}
-use lib.ListN.{length, getD, set, take, drop, length-set, take-append-drop}
+use lib.ListN.{length, getD, set, length-set}
 use lib.Dec.{eqb}
-use borrow.Author.Tests.{eqb-true, eqb-false, eq-eqb}
+use borrow.Author.Tests.{eqb-true, eqb-false}
 use Rattle.rule.specs.Lists.{In}
 use Rattle.rule.specs.Rule.{replace, without, found, put}
 use Rattle.columns.specs.First.{firstAt}

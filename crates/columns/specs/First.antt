@@ -1,17 +1,16 @@
 -- The first member of a list that passes a test, by its place: what a search from the front finds.
---   firstAt p l      the place of the first member of l that passes p, the length of l if none does
---   Seeking          where such a search stands at place k
+--   firstAt p l       the place of the first member of l that passes p, the length of l if none does
+--   Seeking           where such a search stands at place k
 --   seek-start, seek-next, seek-found, seek-end   it begins, goes on, has found one, has found none
---   first-filter, first-none, head-filter   the members that pass begin with it
---   first-part       in a part of m entries it is at most m
---   first-in         it is within the list if a member passes
+--   first-filter, first-none, head-filter         the members that pass begin with it
+--   first-part        in a part of m entries it is at most m
+--   first-in          it is within the list if a member passes
 -- Assumes nothing.
-use mathlib.Core.Path.{_≡_, refl, sym, ap, subst, _∙_}
-use mathlib.Core.Logic.{_⊎_, inl, inr, ⊎-elim}
+use mathlib.Core.Path.{_≡_, refl, ap, _∙_}
+use mathlib.Core.Logic.{inl, inr}
 use mathlib.Core.List.{List, [], _∷_}
 use mathlib.Core.Bool.{Bool, true, false, cond}
-use mathlib.Core.Option.{Option, some, none}
-use Prim.Native.Nat.{ℕ, zero, suc, _+_, _-_, _≤_, _<_}
+use Prim.Native.Nat.{ℕ, suc, _+_, _-_, _≤_, _<_}
 use native.Mathlib.Omega.{arith}
 use lib.ListN.{length, getD, take, drop, length-drop}
 use lib.Seq.{length-take-le}

@@ -3,16 +3,15 @@
 --   length-rest, length-gone       how many columns are left of V, and how many leave it besides the pivot
 --   pivot-at, rest-part, gone-part the arranged columns w cut at place k: first the pivot, then what is left, from k on what is gone
 -- Assumes nothing.
-use mathlib.Core.Path.{_≡_, refl, sym, ap, ap₂, subst, _∙_}
+use mathlib.Core.Path.{_≡_, refl, ap, ap₂, _∙_}
 use mathlib.Core.Logic.{_⊎_, inl, inr, ⊎-elim}
 use mathlib.Core.Bool.{Bool, true, false, cond}
-use mathlib.Core.List.{List, [], _∷_, _++_}
-use Prim.Native.Nat.{ℕ, zero, suc, _+_, _-_, _<_, _≤_}
+use mathlib.Core.List.{List, [], _∷_}
+use Prim.Native.Nat.{ℕ, suc, _+_, _-_, _<_, _≤_}
 use native.Mathlib.Omega.{arith}
 use lib.ListN.{length, getD, take, drop, length-drop, length-append}
 use lib.Seq.{take-at, drop-at, take-length, length-take-le}
 use lib.Dec.{eqb}
-use borrow.Author.Tests.{eqb-false}
 use Rattle.rule.specs.Lists.{In}
 use Rattle.rule.specs.Permitted.{count}
 use Rattle.rule.specs.Sets.{length-filter}

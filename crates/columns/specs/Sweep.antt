@@ -1,27 +1,32 @@
 -- The column rule by places, over V's columns v, of which the first k are the front and the middle; p says whether the chosen row has a one in a column.
+--   laid c            the columns as a step leaves them: the pivot, what is left of V, the others that leave V
+--   Laid              the column rule's outcome
 --   fronted p k v     the row's first one among the first k columns exchanged with the first column
 --   sweptOut p k v    each further one of the middle, from the left, exchanged with the rightmost zero of the last columns
---   LastZero          what the search for that zero finds
---   Ones, Swept       where the search and the sweep stand at their test
---   laid c            the columns as a step leaves them: the pivot, what is left of V, the others that leave V
+--   Moved             the outcome of either
+--   under-set, under-swapped, under-part, ones-upto   the columns stay below the matrix's, and have no more ones than they are
+--   moved-kept, moved-found, moved-none    the ways to bring the first one to the front
 --   length-put        an exchange keeps the length
---   Laid              the column rule's outcome
+--   laid-end          the two parts, one after the other, are the column rule
+--   LastZero          what the search for the rightmost zero finds
+--   Ones, ones-start, ones-more, ones-found, ones-end                    that search, from the right
+--   Swept, swept-start, swept-zero, swept-none, swept-one, swept-end     the sweep, from the left
+--   not-true, not-false   a test turned round
 -- Assumes nothing.
-use mathlib.Core.Path.{_≡_, refl, sym, ap, ap₂, subst, _∙_}
-use mathlib.Core.Logic.{_⊎_, inl, inr, ⊎-elim}
+use mathlib.Core.Path.{_≡_, refl, sym, ap, subst, _∙_}
+use mathlib.Core.Logic.{_⊎_, ⊎-elim}
 use mathlib.Core.Bool.{Bool, true, false, cond, not}
 use mathlib.Core.List.{List, [], _∷_, _++_}
 use Prim.Native.Nat.{ℕ, zero, suc, _+_, _-_, _<_, _≤_}
 use native.Mathlib.Omega.{arith}
 use native.Mathlib.Numerals.{add-one}
-use lib.ListN.{length, getD, set, take, drop, length-set, length-drop, length-append, take-append-drop}
-use lib.Seq.{slice, getD-set-same, getD-set-other, getD-drop, getD-take, take-at, drop-at, length-take-le}
+use lib.ListN.{length, getD, set, take, drop, length-set, length-drop, take-append-drop}
+use lib.Seq.{getD-set-same, getD-set-other, getD-drop, getD-take, take-at, drop-at, length-take-le}
 use lib.Dec.{eqb}
 use borrow.Author.Tests.{eqb-true, eqb-false}
-use Rattle.rule.specs.Lists.{filter}
 use Rattle.rule.specs.Permitted.{count}
 use Rattle.rule.specs.Sets.{bool-or, length-filter}
-use Rattle.rule.specs.Rule.{Cut, rev, lacks, found, put, swept, filled, arrange}
+use Rattle.rule.specs.Rule.{Cut, rev, found, put, swept, filled, arrange}
 use Rattle.rule.specs.Places.{front, back, turn-zero, turn-one, turn-none, turns-end}
 use Rattle.grid.specs.Grid.{Under}
 use Rattle.columns.specs.First.{firstAt}
@@ -78,13 +83,13 @@ ones-upto row x v e = omega (arith, length-filter (row x) v)
 
 -- the first one is brought to the front
 module _ (p : ℕ → Bool) where
-  pub front-kept : (k : ℕ) (v : List ℕ) → 0 < length v → p (getD v 0 0) ≡ true → v ≡ fronted p k v
+  front-kept : (k : ℕ) (v : List ℕ) → 0 < length v → p (getD v 0 0) ≡ true → v ≡ fronted p k v
   unfolding fronted
   front-kept zero v h e = refl
   front-kept (suc k) [] h e = refl
   front-kept (suc k) (a ∷ C) h e = rw e (ap (λ (l : List ℕ). a ∷ l) (sym (take-append-drop k C)))
 
-  pub front-found : (k j : ℕ) (v : List ℕ) → 0 < k → k ≤ length v → p (getD v 0 0) ≡ false → j ≡ firstAt p (take (k - 1) (drop 1 v)) → j + 1 < k
+  front-found : (k j : ℕ) (v : List ℕ) → 0 < k → k ≤ length v → p (getD v 0 0) ≡ false → j ≡ firstAt p (take (k - 1) (drop 1 v)) → j + 1 < k
       → swapped 0 (j + 1) v ≡ fronted p k v
   unfolding fronted swapped
   front-found zero j v h l e f n = absurd (omega arith)
@@ -99,7 +104,7 @@ module _ (p : ℕ → Bool) where
       = subst (λ (c : List ℕ). getD c (firstAt p (take k C)) 0 ∷ set c (firstAt p (take k C)) a ≡ found p a (take k C) ∷ (put p a (take k C) ++ drop k C)) (take-append-drop k C) x in
       rw (e, add-one, g) y
 
-  pub front-none : (k j : ℕ) (v : List ℕ) → 0 < k → k ≤ length v → p (getD v 0 0) ≡ false → j ≡ firstAt p (take (k - 1) (drop 1 v)) → k ≤ j + 1
+  front-none : (k j : ℕ) (v : List ℕ) → 0 < k → k ≤ length v → p (getD v 0 0) ≡ false → j ≡ firstAt p (take (k - 1) (drop 1 v)) → k ≤ j + 1
       → v ≡ fronted p k v
   unfolding fronted
   front-none zero j v h l e f n = refl

@@ -84,7 +84,7 @@ fn sweep(v: &mut [usize], bits: &[u8], l: usize, x: usize, k: usize)
 }
 
 // The place of the first column of v that has a one of row x, or the length.
-pub fn first_one(v: &[usize], bits: &[u8], l: usize, x: usize) -> usize
+fn first_one(v: &[usize], bits: &[u8], l: usize, x: usize) -> usize
     requires { ⌜ x * l + l ≤ length (now bits) ⌝ }
     requires { ⌜ Under l (now v) ⌝ }
     ensures { λ r. ⌜ r ≡ firstAt (bit l (now (bits .entry)) x) (now (v .entry)) ⌝ }

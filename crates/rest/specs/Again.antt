@@ -6,6 +6,7 @@
 --   third-is, fifth-is   where the words are those of phase one's list, and the marks those of the chosen rows: the definition's lists
 --   words-kept       recording leaves the words before those used
 --   words-first      a list that fits an empty room stands in its first words
+--   logged-joined    the lists of two phases stand in the room one behind the other
 --   listing-is       and what is needed holds
 --   Noting           a phase so far: the journal at first with a list noted since the counts began anew
 --   Rising, Falling  phase five has come to a word; phase three has the words before one left
@@ -21,7 +22,7 @@ use lib.Dec.{eqb, ltb}
 use lib.ListN.{length, getD, take, drop, length-map, drop-of-length-le}
 use lib.Seq.{take-set-le, getD-take, length-take-le, take-at, sets, sets-eq}
 use borrow.Author.Tests.{ltb-true, ltb-false, ne-eqb}
-use Rattle.loops.specs.Room.{Log, log, notes, notes-append, puts, puts-fit}
+use Rattle.loops.specs.Room.{Log, log, notes, notes-append, put, puts, puts-fit}
 use Rattle.oplist.specs.declared.Op.{Op}
 use Rattle.oplist.specs.declared.Word.{Word}
 use Rattle.oplist.specs.declared.Word.the-variants.{Known, Unknown}
@@ -103,6 +104,12 @@ words-first os g u h =
     let n : length (map packed os) ≡ length os = length-map os packed in
     ap (λ (l : Log). take (length os) (l .words)) e ∙ ap (take (length os)) (sets-eq (map packed os) (g .words) 0 (omega arith))
     ∙ take-at (map packed os) (drop (0 + length (map packed os)) (g .words)) (length os) n
+
+-- the lists of two phases stand in the room one behind the other
+pub logged-joined : (os ps : List Op) (g : Book) → logged (notes note (anew (notes note g os)) ps) ≡ puts packed (logged g) (os ++ ps)
+unfolding puts
+logged-joined os ps g =
+    logged-notes ps (anew (notes note g os)) ∙ ap (λ (l : Log). notes (put packed) l ps) (logged-notes os g) ∙ sym (notes-append (put packed) (logged g) os ps)
 
 each-at : (P : Op → Type 0) (ws : List ℕ) (k : ℕ) → k < length ws → Each P (opsOf ws) → Each P (opAt ws k)
 unfolding opsOf

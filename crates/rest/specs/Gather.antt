@@ -15,7 +15,6 @@ use mathlib.Core.Bool.{Bool, true, false}
 use mathlib.Core.List.{List, [], _∷_, _++_}
 use Prim.Native.Nat.{ℕ, zero, suc, _+_, _*_, _-_, _≤_, _<_}
 use native.Mathlib.Omega.{arith}
-use lib.Dec.{eqb}
 use lib.ListN.{length, getD, take, drop, length-drop}
 use lib.Seq.{getD-take, getD-drop, length-take-le}
 use borrow.Author.Tests.{eqb-true, eqb-false}

@@ -2,10 +2,11 @@
 --   Above             rows that can be read at place q, and the row that clears them
 --   Backable          the store, the order and the journal are as `backward` needs them
 --   Cleared           a list of operations was noted
---   cleared-none, cleared-then, cleared-as, cleared-fair   of no operation, of two lists, of an equal list; the journal stays fair
+--   cleared-none, cleared-one, cleared-then, cleared-as, cleared-fair   of none, of one, of two lists, of an equal list; the journal stays fair
 --   above-next        a row more is cleared
 --   part-rows         rows of a part of the order
---   back-next         a column more is cleared
+--   Backing           what is left to be noted from a column on makes the whole
+--   back-next, back-end   a column more is cleared; all are
 -- Assumes nothing.
 use mathlib.Core.Path.{_≡_, refl, sym, ap, ap₂, subst, _∙_}
 use mathlib.Core.List.{List, [], _∷_, _++_}

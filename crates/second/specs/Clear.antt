@@ -1,28 +1,29 @@
 -- Operations done on the store and noted in the journal; a column cleared.
 --   Fit m op          an operation keeps to m rows, and its fields fit a word
 --   multiple          the operation that adds c times a row, c not zero
+--   multiple-one, multiple-more, entry-multiple, fit-multiple, small-multiple   which it is, where it stands in a list, and that it fits
 --   Performed         a list of operations was done on the store, and noted
---   performed-none, performed-then, performed-as, performed-fair   of no operation, of two lists, of an equal list; the journal stays fair
+--   performed-none, performed-one, performed-then, performed-as, performed-fair   of none, of one, of two lists, of an equal list; the journal stays fair
 --   acts-append       of lists joined
 --   acts-clears-other, acts-scaled-other   a row that is not cleared, or not scaled, stays as it is
 --   clears-take, clears-as   the rows to be cleared, one more; by entries that agree
+--   scaled-none, scaled-some, quotient-octet   the operation that divides a row by its entry, from the quotient of one by it
 --   clear-next        a row more is cleared
 --   column-performed  a row is scaled, and then the column cleared
 -- Assumes nothing.
 use mathlib.Core.Path.{_≡_, refl, sym, ap, ap₂, subst, _∙_}
 use mathlib.Core.Logic.{_≢_}
 use mathlib.Core.List.{List, [], _∷_, _++_}
-use Prim.Native.Nat.{ℕ, zero, suc, _+_, _-_, _≤_, _<_}
+use Prim.Native.Nat.{ℕ, zero, suc, _+_, _≤_, _<_}
 use native.Mathlib.Numerals.{add-one}
 use native.Mathlib.Omega.{arith}
-use lib.ListN.{length, getD, set, take}
+use lib.ListN.{length, getD, take}
 use lib.Seq.{take-suc, getD-take, length-take-le, getD-set-other}
 use Rattle.loops.specs.Room.{notes, notes-append}
 use Rattle.octet.specs.Octet.{inverse, quotient}
 use Rattle.octet.specs.Field.{one-mul, inv-octet, mul-octet}
 use Rattle.octet.specs.Answers.{quotientOf}
 use Rattle.octet.specs.declared.Octet.{Octet}
-use Rattle.octet.specs.declared.Quotient.{Quotient}
 use Rattle.octet.specs.declared.Quotient.the-variants.{Value, ZeroDivisor}
 use Rattle.oplist.specs.declared.Op.{Op}
 use Rattle.oplist.specs.declared.Op.the-variants.{AddAssign, MulAssign, FMA}

@@ -3,22 +3,18 @@
 --   picked            the entries of row j at some columns, in a list of rows of l
 --   entries           the matrix of a binary list and octet rows, which are h from row s on
 --   getD-map-below, map-as, picked-as   of a map
---   combined-binary, combined-octet     whose entry stands in row y
---   Filled, filled-next, filled-end     rows filled from the top
+--   entries-before, entries-octet, entries-after   row y, by where it stands to the octet rows
+--   Filled, filled-start, filled-next, filled-end   rows filled from the top
 -- Assumes nothing.
-use mathlib.Core.Path.{_≡_, refl, sym, ap, ap₂, subst, _∙_}
-use mathlib.Core.Logic.{_≢_, _⊎_, inl, inr}
-use mathlib.Core.Bool.{Bool, true, false, cond, _&&_}
-use mathlib.Core.List.{List, [], _∷_, _++_, map}
+use mathlib.Core.Path.{_≡_, refl, ap, ap₂, _∙_}
+use mathlib.Core.List.{List, [], _∷_, map}
 use Prim.Native.Nat.{ℕ, zero, suc, _+_, _*_, _-_, _≤_, _<_}
 use native.Mathlib.Omega.{arith}
-use lib.Dec.{leb, ltb, eqb}
 use borrow.Author.Count.{below-more}
 use borrow.Author.Tests.{lt-ltb, le-ltb, le-leb, lt-leb}
 use lib.ListN.{length, getD, set, take, drop}
 use lib.Seq.{getD-take, getD-drop, getD-set-same, getD-set-other}
-use Rattle.phases.specs.System.{Shape, range, combined}
-use Rattle.phases.specs.Two.{working}
+use Rattle.phases.specs.System.{range, combined}
 use Rattle.second.specs.Store.{storeOf, Sized, Place, length-storeOf, storeOf-rows}
 
 pub record Filling (m l s h i : ℕ) (w bits octs cols : List ℕ) : Type 0 where

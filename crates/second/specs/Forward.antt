@@ -1,24 +1,27 @@
 -- The columns of phase two, one after the other: what code sees of the definition's `forward`.
---   View, view          the rows by place, those that got a column first, and the matrix
+--   View, sight, view   the rows by place, those that got a column first, and the matrix
 --   told                what an answer says, beside what the rooms then hold; a stop is told by the place of its column
 --   seen                the same of the definition, whose columns are counted from place i
---   Eliminated          what `forward` promises: by the definition, whatever the columns' numbers are
+--   Eliminated by       what `forward` and `eliminate` promise: what the definition `by` says, whatever the columns' numbers are
+--   Ran, Through, Stopped, through, stopped   what an answer says of the definition: it went through, or stopped at a column
 --   nonzero             a row has a nonzero at a place
 --   search-skip, search-here, search-none   the first row with a nonzero, from a place on
+--   state, step         a state of the definition, and a turn of its loop beside the journal
 --   Going               where the loop over columns stands
 --   going-start, going-next, going-done, going-stuck   it begins, makes a turn, is over, meets a column without pivot
+--   going-chosen        the rows before place i stay
 -- Assumes nothing.
-use mathlib.Core.Path.{_≡_, refl, sym, ap, ap₂, subst, _∙_}
+use mathlib.Core.Path.{_≡_, refl, sym, ap, _∙_}
 use mathlib.Core.Logic.{_≢_}
 use mathlib.Core.Bool.{Bool, not}
 use mathlib.Core.List.{List, [], _∷_, _++_, append-assoc, append-nil}
-use mathlib.Core.Option.{Option, some, none}
-use Prim.Native.Nat.{ℕ, suc, _+_, _-_, _≤_, _<_}
+use mathlib.Core.Option.{some, none}
+use Prim.Native.Nat.{ℕ, _+_, _-_, _≤_, _<_}
 use native.Mathlib.Numerals.{add-one}
 use native.Mathlib.Omega.{arith}
 use lib.Dec.{eqb}
 use borrow.Author.Tests.{eq-eqb, ne-eqb}
-use lib.ListN.{length, getD, take, drop, length-append, length-drop, take-append-drop, drop-of-length-le}
+use lib.ListN.{length, getD, take, drop, length-append, take-append-drop, drop-of-length-le}
 use lib.Seq.{drop-cons, take-at, drop-at, length-take-le}
 use Rattle.loops.specs.Loop.{At, at-start, at-next, at-end, left-early}
 use Rattle.loops.specs.Room.{notes}
@@ -54,11 +57,50 @@ abbrev pub seen : ℕ → Way (Run Book Second) → Way (Run Book View)
 seen i (go r) = go (beside (view (r .st)) (r .log))
 seen i (halt j r) = halt (i + j) (beside (view (r .st)) (r .log))
 
-pub record Eliminated (m l i : ℕ) (w₀ d₀ : List ℕ) (g₀ : Book) (r : Elimination) (w d ws : List ℕ) : Type 0 where
+pub record Eliminated (by : List ℕ → List ℕ → List (List ℕ) → Way (Out Op Second)) (m l i : ℕ) (w₀ d₀ : List ℕ) (g₀ : Book)
+    (r : Elimination) (w d ws : List ℕ) : Type 0 where
   pub order : Order m m d
   pub chosen : take i d ≡ take i d₀
   pub is : (cols : List ℕ) → length cols ≡ l - i
-      → told r (sight (drop i d) (storeOf m l i w)) ws ≡ seen i (mapWay (lay note g₀) (forward cols (drop i d₀) (storeOf m l i w₀)))
+      → told r (sight (drop i d) (storeOf m l i w)) ws ≡ seen i (mapWay (lay note g₀) (by cols (drop i d₀) (storeOf m l i w₀)))
+
+-- the rows by place, the matrix and the journal are those that f leaves
+pub record Ran (g₀ : Book) (f : Out Op Second) (xs : List ℕ) (X : List (List ℕ)) (g : Book) : Type 0 where
+  pub rows : xs ≡ rows-of (f .st .steps) ++ f .st .left
+  pub mat : X ≡ f .st .mat
+  pub list : g ≡ notes note g₀ (f .ops)
+
+pub record Through (g₀ : Book) (W : Way (Out Op Second)) (xs : List ℕ) (X : List (List ℕ)) (g : Book) : Type 0 where
+  pub f : Out Op Second
+  pub way : W ≡ go f
+  pub ran : Ran g₀ f xs X g
+
+pub record Stopped (i : ℕ) (g₀ : Book) (W : Way (Out Op Second)) (q : ℕ) (xs : List ℕ) (X : List (List ℕ)) (g : Book) : Type 0 where
+  pub f : Out Op Second
+  pub j : ℕ
+  pub way : W ≡ halt j f
+  pub place : q ≡ i + j
+  pub ran : Ran g₀ f xs X g
+
+module _ (i : ℕ) (g₀ : Book) {xs : List ℕ} {X : List (List ℕ)} {g : Book} where
+  ran-as : (f : Out Op Second) → beside (sight xs X) g ≡ beside (view (f .st)) (notes note g₀ (f .ops)) → Ran g₀ f xs X g
+  ran-as f e = record {
+    rows = ap (λ (r : Run Book View). r .st .rows) e;
+    mat = ap (λ (r : Run Book View). r .st .mat) e;
+    list = ap (λ (r : Run Book View). r .log) e;
+  }
+
+  pub through : (W : Way (Out Op Second)) → go (beside (sight xs X) g) ≡ seen i (mapWay (lay note g₀) W) → Through g₀ W xs X g
+  through (go f) e =
+      let a : beside (sight xs X) g ≡ beside (view (f .st)) (notes note g₀ (f .ops)) = cc in
+      record { f = f; way = refl; ran = ran-as f a }
+  through (halt j f) e = let z : _≡_ {A = ℕ} 0 1 = cc in absurd (omega arith)
+
+  pub stopped : (W : Way (Out Op Second)) {q : ℕ} → halt q (beside (sight xs X) g) ≡ seen i (mapWay (lay note g₀) W) → Stopped i g₀ W q xs X g
+  stopped (go f) e = let z : _≡_ {A = ℕ} 0 1 = cc in absurd (omega arith)
+  stopped (halt j f) {q} e =
+      let a : beside (sight xs X) g ≡ beside (view (f .st)) (notes note g₀ (f .ops)) = cc in
+      record { f = f; j = j; way = refl; place = cc; ran = ran-as f a }
 
 -- the search for a row
 abbrev pub nonzero : List (List ℕ) → ℕ → ℕ → Bool

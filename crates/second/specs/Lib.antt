@@ -6,3 +6,5 @@ pub mod Forward
 pub mod Backward
 pub mod Fill
 pub mod Listed
+pub mod Whole
+pub mod Only

@@ -2,11 +2,11 @@
 --   acts-with        the operation of a word, and then others
 --   Applying         where the loop over words stands
 --   applying-start, applying-next, applying-end   it begins, makes a turn, is over
+--   applying-within     the next word keeps to the rows
 -- Assumes nothing.
 use mathlib.Core.Path.{_≡_, refl, sym, ap, subst, _∙_}
-use mathlib.Core.List.{List, [], _∷_}
+use mathlib.Core.List.{List, []}
 use Prim.Native.Nat.{ℕ, _+_, _≤_, _<_}
-use native.Mathlib.Omega.{arith}
 use lib.ListN.{length, getD, drop, drop-of-length-le}
 use Rattle.oplist.specs.declared.Op.{Op}
 use Rattle.oplist.specs.declared.Word.{Word}

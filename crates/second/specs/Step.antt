@@ -2,11 +2,12 @@
 --   Ready              the rooms, the order of all m rows and the journal are as phase two needs them
 --   Stepped            what a step leaves
 --   stepped            a step, by its parts
---   tail-rows, tail-is the rows below the brought one
+--   order-swapped, first-is, tail-is   the order after the exchange: all rows still, the brought one, those below it
+--   tail-rows          rows from a place on, none twice
 -- Assumes nothing.
-use mathlib.Core.Path.{_≡_, refl, sym, ap, subst, _∙_}
-use mathlib.Core.List.{List, [], _∷_, _++_}
-use Prim.Native.Nat.{ℕ, suc, _+_, _-_, _≤_, _<_}
+use mathlib.Core.Path.{_≡_, sym, ap, subst, _∙_}
+use mathlib.Core.List.{List, _∷_, _++_}
+use Prim.Native.Nat.{ℕ, _+_, _-_, _≤_, _<_}
 use native.Mathlib.Numerals.{add-one}
 use native.Mathlib.Omega.{arith}
 use lib.ListN.{length, getD, take, drop, length-drop}

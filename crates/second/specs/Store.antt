@@ -3,13 +3,14 @@
 --   Place m l y q x     x is where place q of row y stands, or would
 --   Sized               the store has m rows of l bytes, and i is a place of it, or its end
 --   Rooms               there is a row of scratch besides, and the rows are few enough for a word
+--   row-within          rows end in the store
 --   length-storeOf, row-storeOf, length-row, at-storeOf   its rows and entries
 --   storeOf-put         a part of the store is replaced: that row is
 --   storeOf-rows        a store whose rows are known
 --   act-add, act-scale, act-fma   a row operation, by the row that it makes
 --   row-part, row-made  the bytes from a row's place i to its end are that row; what a function makes of them
 -- Assumes nothing.
-use mathlib.Core.Path.{_≡_, refl, sym, ap, ap₂, subst, _∙_}
+use mathlib.Core.Path.{_≡_, refl, sym, ap, _∙_}
 use mathlib.Core.Bool.{Bool, true, false}
 use mathlib.Core.List.{List, [], _∷_, _++_, map}
 use Prim.Native.Nat.{ℕ, zero, suc, _+_, _*_, _-_, _≤_, _<_}

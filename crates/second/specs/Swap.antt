@@ -1,12 +1,13 @@
 -- The order of the rows, and an exchange in it.
 --   swapped a b d      the entries at a and b change places
+--   length-swapped     as many
 --   rows-swapped       rows below m, none twice, stay so
 --   rows-drop          from a place on too
 --   brought            the row y at a place from q on is exchanged to place q: it comes first, and the others are as the rule has them
 -- Assumes nothing.
 use mathlib.Core.Path.{_≡_, refl, sym, ap, ap₂, subst, _∙_}
 use mathlib.Core.Logic.{_≢_, _⊎_, inl, inr}
-use mathlib.Core.Bool.{Bool, true, false, cond}
+use mathlib.Core.Bool.{Bool, true, false}
 use mathlib.Core.List.{List, [], _∷_, _++_}
 use Prim.Native.Nat.{ℕ, zero, suc, _+_, _-_, _≤_, _<_}
 use native.Mathlib.Omega.{arith}
@@ -14,7 +15,7 @@ use lib.Dec.{eqb}
 use borrow.Author.Tests.{eqb-true, eqb-false, eq-eqb, ne-eqb}
 use lib.ListN.{length, getD, set, take, drop, length-set, length-drop, take-append-drop}
 use lib.Seq.{getD-set-same, getD-set-other, take-set-le, drop-set-add, getD-drop}
-use Rattle.oplist.specs.Facts.{Rows, Order}
+use Rattle.oplist.specs.Facts.{Rows}
 use Rattle.rule.specs.Rule.{replace, without}
 
 unfoldable pub swapped : ℕ → ℕ → List ℕ → List ℕ

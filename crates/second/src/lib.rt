@@ -1,15 +1,15 @@
 // Phase two over lent rooms: the working matrix, Gaussian elimination of the rows that were not chosen, and what it records.
 ghost use mathlib.Core.Path.{_≡_};
 ghost use mathlib.Core.List.{[], _∷_, map};
-ghost use Prim.Native.Nat.{ℕ, _+_, _-_, _*_, _^_, _≤_, _<_};
+ghost use Prim.Native.Nat.{ℕ, _-_, _*_, _^_, _≤_, _<_};
 ghost use lib.ListN.{length, getD, set, take, drop};
 ghost use Rattle.octets.specs.Rows.{addRow, scaleRow, fmaRow};
 ghost use Rattle.oplist.specs.Ops.{Within, Each};
 ghost use Rattle.oplist.specs.Word.{meaning};
 ghost use Rattle.oplist.specs.Listed.{opsOf, withOp};
+ghost use Rattle.oplist.specs.Facts.{Rows};
 ghost use Rattle.phases.specs.One.{entry, clears};
-ghost use Rattle.phases.specs.Two.{at, act, acts, working, scaled, backward as cleared};
-ghost use Rattle.oplist.specs.Facts.{Rows, Order};
+ghost use Rattle.phases.specs.Two.{at, act, acts, working, scaled, forward as columns, backward as cleared};
 ghost use Rattle.tally.specs.Book.{book, Fair};
 ghost use Rattle.second.specs.Store.{storeOf, Place, Rooms, Sized};
 ghost use Rattle.second.specs.Clear.{Fit, multiple, Performed};
@@ -18,6 +18,7 @@ ghost use Rattle.second.specs.Step.{Ready, Stepped};
 ghost use Rattle.second.specs.Forward.{Eliminated};
 ghost use Rattle.second.specs.Backward.{Above, Backable, Cleared};
 ghost use Rattle.second.specs.Fill.{Filling, picked, entries};
+ghost use Rattle.second.specs.Whole.{both, Prepared, Reduced};
 use octet::Octet;
 use octet::Quotient;
 use oplist::Op;
@@ -49,6 +50,7 @@ fn read(work: &[u8], m: usize, l: usize, i: usize, y: usize, q: usize) -> u8
     work[k]
 }
 
+// The bytes of src, in dest.
 fn copy(dest: &mut [u8], src: &[u8])
     requires { ⌜ length (now dest) ≡ length (now src) ⌝ }
     ensures { λ _. ⌜ now (dest .exit) ≡ now (src .entry) ⌝ }
@@ -142,9 +144,9 @@ fn apply(work: &mut [u8], m: usize, l: usize, i: usize, scratch: &mut [u8], op: 
     ensures { λ _. ⌜ storeOf m l i (now (work .exit)) ≡ act op (storeOf m l i (now (work .entry))) ⌝ }
 {
     match op {
-        Op::AddAssign(y, x) => add_from(work, m, l, i, scratch, y, x),
-        Op::MulAssign(y, c) => scale_row(work, m, l, i, y, c),
-        Op::FMA(y, x, c) => fma_from(work, m, l, i, scratch, y, x, c),
+        Op::AddAssign(dest, src) => add_from(work, m, l, i, scratch, dest, src),
+        Op::MulAssign(dest, scalar) => scale_row(work, m, l, i, dest, scalar),
+        Op::FMA(dest, src, scalar) => fma_from(work, m, l, i, scratch, dest, src, scalar),
     }
 }
 
@@ -262,6 +264,7 @@ fn clear_below(
     r
 }
 
+// The entries at a and b change places.
 fn swap(d: &mut [usize], a: usize, b: usize)
     requires { ⌜ (a < length (now d)) × (b < length (now d)) ⌝ }
     ensures { λ _. ⌜ now (d .exit) ≡ swapped a b (now (d .entry)) ⌝ }
@@ -308,7 +311,7 @@ pub fn forward(
     t: Tally,
 ) -> Elimination
     requires { ⌜ Ready m l i (now work) (now scratch) (now d) (book (now list) t) ⌝ }
-    ensures { λ r. ⌜ Eliminated m l i (now (work .entry)) (now (d .entry)) (book (now (list .entry)) t) r (now (work .exit)) (now (d .exit)) (now (list .exit)) ⌝ }
+    ensures { λ r. ⌜ Eliminated columns m l i (now (work .entry)) (now (d .entry)) (book (now (list .entry)) t) r (now (work .exit)) (now (d .exit)) (now (list .exit)) ⌝ }
 {
     let mut r = t;
     let mut q = i;
@@ -485,6 +488,7 @@ pub fn fill(
     }
 }
 
+// The operation of a word; a word that is no operation's does nothing.
 fn apply_word(work: &mut [u8], m: usize, l: usize, i: usize, scratch: &mut [u8], w: u64)
     requires { ⌜ Rooms m l i (now work) (now scratch) ⌝ }
     requires { ⌜ Each (Within m) (withOp (meaning w) []) ⌝ }
@@ -508,4 +512,50 @@ pub fn apply_list(work: &mut [u8], m: usize, l: usize, i: usize, scratch: &mut [
         apply_word(work, m, l, i, scratch, w);
         k += 1;
     }
+}
+
+// The columns from place i on: to echelon form, and then cleared above.
+pub fn eliminate(
+    work: &mut [u8],
+    m: usize,
+    l: usize,
+    i: usize,
+    d: &mut [usize],
+    scratch: &mut [u8],
+    list: &mut [u64],
+    t: Tally,
+) -> Elimination
+    requires { ⌜ Ready m l i (now work) (now scratch) (now d) (book (now list) t) ⌝ }
+    ensures { λ r. ⌜ Eliminated both m l i (now (work .entry)) (now (d .entry)) (book (now (list .entry)) t) r (now (work .exit)) (now (d .exit)) (now (list .exit)) ⌝ }
+{
+    let way = forward(work, m, l, i, d, scratch, list, t);
+    match way {
+        Elimination::Done(r) => Elimination::Done(backward(work, m, l, i, d, list, r)),
+        Elimination::Singular(q, r) => Elimination::Singular(q, r),
+    }
+}
+
+// Phase two: the working matrix is filled, gets phase one's list, and is then eliminated; only this phase's operations are counted.
+pub fn phase_two(
+    bits: &[u8],
+    octs: &[u8],
+    m: usize,
+    l: usize,
+    s: usize,
+    h: usize,
+    i: usize,
+    c: &[usize],
+    d: &mut [usize],
+    work: &mut [u8],
+    scratch: &mut [u8],
+    list: &mut [u64],
+    t: Tally,
+) -> Elimination
+    requires { ⌜ Prepared m l s h i (now bits) (now octs) (now c) (now d) (now work) (now scratch) (now list) t ⌝ }
+    ensures { λ r. ⌜ Reduced m l s h i (now (bits .entry)) (now (octs .entry)) (now (c .entry)) (now (d .entry)) (now (list .entry)) t r (now (work .exit)) (now (d .exit)) (now (list .exit)) ⌝ }
+{
+    let n = t.used;
+    fill(work, bits, octs, m, l, s, h, i, &c[i..l]);
+    apply_list(work, m, l, i, scratch, &list[0..n]);
+    eliminate(work, m, l, i, d, scratch, list, tally::next_phase(t))
 }

@@ -22,15 +22,15 @@ use Rattle.slab.specs.declared.Answer.{Answer}
 use Rattle.slab.specs.declared.Answer.the-variants.{InPlace, BadShape, BadList, NotUndoable}
 use Rattle.slab.specs.declared.Check.{Check}
 use Rattle.slab.specs.declared.Check.the-variants.{Pass, ShapeFails, ListFails}
-use Rattle.slab.specs.Replay.{number, rowOf, readBy, checked, Outcome, outcome, pickOutcome, replayedBy, replayed, undoneBy, undone}
+use Rattle.slab.specs.Replay.{number, rowOf, readBy, checked, Outcome, outcome, pickOutcome, replayedBy, replayed, undoneBy, undone, Replayed, Undone}
 use Rattle.slab.specs.Passed.{Passed, passed, all-within, all-good}
 
 module _ (m l t : ℕ) (ws : List ℕ) (b : Bool) (xs : List ℕ) where
-  pub replay-one : (s : List ℕ) (o p : Outcome) → o ≡ replayed m l t ws b xs s → p ≡ replayed m l t ws b xs s → o ≡ p
-  replay-one s o p e f = e ∙ sym f
+  pub replay-one : {s u v : List ℕ} {q r : Answer} → Replayed m l t ws b xs s q u → Replayed m l t ws b xs s r v → outcome q u ≡ outcome r v
+  replay-one e f = e .is ∙ sym (f .is)
 
-  pub undo-one : (s : List ℕ) (o p : Outcome) → o ≡ undone m l t ws b xs s → p ≡ undone m l t ws b xs s → o ≡ p
-  undo-one s o p e f = e ∙ sym f
+  pub undo-one : {s u v : List ℕ} {q r : Answer} → Undone m l t ws b xs s q u → Undone m l t ws b xs s r v → outcome q u ≡ outcome r v
+  undo-one e f = e .is ∙ sym (f .is)
 
   pub replay-blind : (s r : List ℕ) → length s ≡ length r → replayed m l t ws b xs s .answer ≡ replayed m l t ws b xs r .answer
   unfolding replayed

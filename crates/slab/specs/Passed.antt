@@ -3,9 +3,11 @@
 --   passed             a call that passed has them
 --   fits-word          the slab's size is within a machine word
 --   all-placed         the rows of each operation lie in the slab
+--   all-within         the rows of each operation are below m
 --   all-good           the operations can be undone, if no row is multiplied by zero
+--   good-placed        the same of a list that can be undone, without a check
 -- Assumes nothing.
-use mathlib.Core.Path.{_≡_, refl, sym, _∙_, subst}
+use mathlib.Core.Path.{_≡_, refl}
 use mathlib.Core.Logic.{_≢_, _⊎_, inl, inr}
 use mathlib.Core.Bool.{Bool, true, false, _&&_}
 use mathlib.Core.List.{List, [], _∷_}
@@ -15,7 +17,6 @@ use native.Mathlib.Omega.{arith}
 use borrow.Author.Tests.{leb-true, eqb-true, ltb-true, ltb-false}
 use lib.Dec.{leb, ltb, eqb}
 use lib.ListN.{length}
-use Rattle.octet.specs.Field.{Octet}
 use Rattle.oplist.specs.declared.Op.{Op}
 use Rattle.oplist.specs.declared.Op.the-variants.{AddAssign, MulAssign, FMA}
 use Rattle.oplist.specs.Ops.{Each, Nonzero}
@@ -88,6 +89,16 @@ good m (FMA d s c) h = h .0 .apart
 each-three : (P Q R : Op → Type 0) (os : List Op) → Each P os → Each Q os → Each R os → Each (λ (o : Op). P o × Q o × R o) os
 each-three P Q R [] p q r = tt
 each-three P Q R (o ∷ os) p q r = ((p .0, q .0, r .0), each-three P Q R os (p .1) (q .1) (r .1))
+
+-- a list that can be undone, within m rows, as a solved call leaves it
+pub good-placed : (m t : ℕ) (os : List Op) → Each Good os → Each (Within m) os → AllPlaced t os (m * t)
+good-placed m t [] g b = tt
+good-placed m t (o ∷ os) g b = (at o (g .0) (b .0), good-placed m t os (g .1) (b .1))
+  where
+    at : (q : Op) → Good q → Within m q → Placed t q (m * t)
+    at (AddAssign d s) h k = two-rows m t d s (k .0) (k .1) h
+    at (MulAssign d c) h k = fits m t d (k .0)
+    at (FMA d s c) h k = two-rows m t d s (k .0) (k .1) h
 
 module _ {m l t : ℕ} {ws : List ℕ} {b : Bool} {xs : List ℕ} {size : ℕ} (p : Passed m l t ws b xs size) where
   pub all-placed : AllPlaced t (opsOf ws) size

@@ -5,7 +5,11 @@
 --   slabShaped         the bounds on the numbers, and the slab's size
 --   checked            the checks, in the order in which they refuse
 --   replayed, undone   answer and slab
+--   replayNumber, undoNumber   the number of the answer, by what is refused first
+--   Replayed, Undone   what `replay` and `undo` promise of their answer r and the slab u that they leave
+--   replay-met, undo-met       the answer and the slab keep the promise
 -- Assumes nothing.
+use mathlib.Core.Path.{_≡_, refl, ap, _∙_}
 use mathlib.Core.Bool.{Bool, true, false, _&&_}
 use mathlib.Core.List.{List}
 use Prim.Native.Nat.{ℕ, _*_}
@@ -83,3 +87,55 @@ undoneBy ListFails t ws s = outcome BadList s
 
 unfoldable pub undone : ℕ → ℕ → ℕ → List ℕ → Bool → List ℕ → List ℕ → Outcome
 undone m l t ws b xs s = undoneBy (checked m l t ws b xs (length s)) t ws s
+
+abbrev pick : Bool → ℕ → ℕ → ℕ
+pick true a b = a
+pick false a b = b
+
+-- 2 before 8
+unfoldable pub replayNumber : ℕ → ℕ → ℕ → List ℕ → Bool → List ℕ → ℕ → ℕ
+replayNumber m l t ws b xs size = pick (slabShaped m l t (length ws) size) (pick (listFine m ws && orderFine m l b xs) 0 8) 2
+
+-- 2 before 8 before 9
+unfoldable pub undoNumber : ℕ → ℕ → ℕ → List ℕ → Bool → List ℕ → ℕ → ℕ
+undoNumber m l t ws b xs size = pick (slabShaped m l t (length ws) size) (pick (listFine m ws && orderFine m l b xs) (pick (undoable (opsOf ws)) 0 9) 8) 2
+
+pub record Replayed (m l t : ℕ) (ws : List ℕ) (b : Bool) (xs s : List ℕ) (r : Answer) (u : List ℕ) : Type 0 where
+  pub is : outcome r u ≡ replayed m l t ws b xs s
+  pub number-is : number r ≡ replayNumber m l t ws b xs (length s)
+
+pub record Undone (m l t : ℕ) (ws : List ℕ) (b : Bool) (xs s : List ℕ) (r : Answer) (u : List ℕ) : Type 0 where
+  pub is : outcome r u ≡ undone m l t ws b xs s
+  pub number-is : number r ≡ undoNumber m l t ws b xs (length s)
+
+module _ {m l t : ℕ} {ws : List ℕ} {b : Bool} {xs s : List ℕ} {r : Answer} {u : List ℕ} where
+  pub replay-met : outcome r u ≡ replayed m l t ws b xs s → Replayed m l t ws b xs s r u
+  unfolding replayed replayNumber checked
+  replay-met e =
+      record {
+        is = e;
+        number-is = ap (λ (o : Outcome). number (o .answer)) e ∙ at (slabShaped m l t (length ws) (length s)) (listFine m ws && orderFine m l b xs) b;
+      }
+    where
+      at : (p q c : Bool) → number (replayedBy (pickCheck p (pickCheck q Pass ListFails) ShapeFails) t ws c s .answer) ≡ pick p (pick q 0 8) 2
+      at true true true = refl
+      at true true false = refl
+      at true false c = refl
+      at false q c = refl
+
+  pub undo-met : outcome r u ≡ undone m l t ws b xs s → Undone m l t ws b xs s r u
+  unfolding undone undoNumber checked
+  undo-met e =
+      record {
+        is = e;
+        number-is = ap (λ (o : Outcome). number (o .answer)) e ∙ at (slabShaped m l t (length ws) (length s)) (listFine m ws && orderFine m l b xs);
+      }
+    where
+      which : (c : Bool) (v : List ℕ) → number (pickOutcome c (outcome InPlace v) (outcome NotUndoable s) .answer) ≡ pick c 0 9
+      which true v = refl
+      which false v = refl
+
+      at : (p q : Bool) → number (undoneBy (pickCheck p (pickCheck q Pass ListFails) ShapeFails) t ws s .answer) ≡ pick p (pick q (pick (undoable (opsOf ws)) 0 9) 8) 2
+      at true true = which (undoable (opsOf ws)) (acts t (undo (opsOf ws)) s)
+      at true false = refl
+      at false q = refl

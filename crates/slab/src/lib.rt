@@ -2,9 +2,9 @@
 // A list is words of `oplist`. Where `ordered` is true, symbol q of the l symbols is in row order[q] after the list; else in row q.
 ghost use mathlib.Core.Path.{_≡_};
 ghost use lib.ListN.{length};
-ghost use Rattle.slab.specs.Replay.{slabShaped, checked, outcome, replayed, undone};
+ghost use Rattle.slab.specs.Replay.{slabShaped, checked, Replayed, Undone};
 
-mod list;
+pub mod list;
 mod row;
 
 // The most bytes of a symbol.
@@ -81,7 +81,7 @@ pub fn replay(
     order: &[usize],
     slab: &mut [u8],
 ) -> Answer
-    ensures { λ r. ⌜ outcome r (now (slab .exit)) ≡ replayed m l t (now (list .entry)) ordered (now (order .entry)) (now (slab .entry)) ⌝ }
+    ensures { λ r. ⌜ Replayed m l t (now (list .entry)) ordered (now (order .entry)) (now (slab .entry)) r (now (slab .exit)) ⌝ }
 {
     match check_call(m, l, t, list, ordered, order, slab.len()) {
         Check::ShapeFails => Answer::BadShape,
@@ -107,7 +107,7 @@ pub fn undo(
     order: &[usize],
     slab: &mut [u8],
 ) -> Answer
-    ensures { λ r. ⌜ outcome r (now (slab .exit)) ≡ undone m l t (now (list .entry)) ordered (now (order .entry)) (now (slab .entry)) ⌝ }
+    ensures { λ r. ⌜ Undone m l t (now (list .entry)) ordered (now (order .entry)) (now (slab .entry)) r (now (slab .exit)) ⌝ }
 {
     match check_call(m, l, t, list, ordered, order, slab.len()) {
         Check::ShapeFails => Answer::BadShape,

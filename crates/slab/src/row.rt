@@ -11,7 +11,7 @@ use octet::Octet;
 use oplist::Op;
 
 // What a row gains from another: that row, or a multiple of it.
-pub enum Gain {
+enum Gain {
     Row,
     Multiple(u8),
 }
@@ -62,7 +62,7 @@ fn gain_block(slab: &mut [u8], block: &mut [u8], dest: usize, src: usize, n: usi
 }
 
 // The n bytes from dest on gain the n bytes from src on, block by block. The two do not overlap.
-pub fn gain_row(slab: &mut [u8], block: &mut [u8], dest: usize, src: usize, n: usize, by: Gain)
+fn gain_row(slab: &mut [u8], block: &mut [u8], dest: usize, src: usize, n: usize, by: Gain)
     requires { ⌜ TwoRows dest src n (length (now slab)) × (0 < length (now block)) ⌝ }
     ensures { λ _. ⌜ now (slab .exit) ≡ gain by dest src n (now (slab .entry)) ⌝ }
 {

@@ -5,14 +5,16 @@
 --   Noted            a journal is another with one operation more
 --   Fair             no count is above the number of those used, which is at most one above the room: so no sum wraps
 --   afresh, anew     the counts begin anew, in a tally and in a journal
+--   note-fits, note-full   a note where there is room, and where there is none
 --   logged           the room and its count alone
 --   logged-note, logged-notes   they are what the list room's own laws say
---   length-notes     the room keeps its length
+--   length-note, length-notes   the room keeps its length
 --   fair-note, fair-notes, fair-anew   a fair journal stays fair
---   used-notes, adds-notes, muls-notes   where the list fits, the counts grow by those of the list
+--   Grown, grown     where the list fits, the counts grow by those of the list
+--   noted-stored, noted-full   a note, by what the room's own step gave
 -- Assumes nothing.
-use Prim.Native.Nat.{ℕ, suc, _+_, _≤_, _<_}
-use mathlib.Core.Path.{_≡_, refl, sym, ap, subst, _∙_}
+use Prim.Native.Nat.{ℕ, _+_, _≤_, _<_}
+use mathlib.Core.Path.{_≡_, refl, sym, ap, _∙_}
 use mathlib.Core.Bool.{Bool, true, false}
 use mathlib.Core.List.{List, [], _∷_}
 use native.Mathlib.Omega.{arith}

@@ -38,7 +38,7 @@ shared-slice-read-if1 c = omega (arith, (c .before .before .before .before .befo
 has-requires : tie.Need-has-requires Inv-loop μ-loop
 has-requires c κs =
     let s = c .before .before .before .before .before .before .before .before in
-    ((s .pre .1 .0 .at) (c .before .before .before .before .loop .k) (c .before .before .before .loop-test .taken), (s .pre .0))
+    ((s .pre .1 .0 .at) (c .before .before .before .before .loop .k) (c .before .before .before .loop-test .taken), omega (arith, s .pre .0))
 
 returns : tie.Need-returns Inv-loop μ-loop
 returns c = seek-found (c .before .before .before .before .before .before .loop .inv) (c .before .before .before .before .before .loop-test .taken) (and-yes _ _ (sym (c .before .has .ensures) ∙ (c .if2 .taken)) (eq-eqb _ _ (c .before .before .if1 .taken)))

@@ -58,7 +58,7 @@ same-length : tie.Need-same-length Inv-loop μ-loop
 same-length c = search needs
 
 returns : tie.Need-returns Inv-loop μ-loop
-returns c = grow-end (c .before .loop .inv) (c .loop-test .left)
+returns c = grow-end (c .before .loop .inv) (c .loop-test .left) (c .before .before .before .before .sizes-of .ensures)
 
 pub biggest-spec : {M : Type 1} → statement M
 biggest-spec =

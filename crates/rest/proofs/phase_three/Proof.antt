@@ -1,5 +1,4 @@
 -- `rest::phase_three` meets its contract. Assumes nothing.
-use Prim.Native.Nat.{_-_}
 use native.Mathlib.Omega.{arith}
 use Rattle.tally.specs.Book.{book}
 use Rattle.rest.specs.Again.{Falling, falling-start, falling-word, falling-next, falling-length, falling-done}

@@ -1,7 +1,6 @@
 -- `rest::vector_of` meets its contract: the values from a place on are in the vector. Assumes nothing.
-use Prim.Native.Nat.{_-_}
 use native.Mathlib.Omega.{arith}
-use lib.ListN.{length, getD, length-set}
+use lib.ListN.{getD, length-set}
 use Rattle.rest.specs.Vector.{Substituting, last-column, substituting-start, substituting-column, substituting-value, substituting-next, substituting-done}
 use borrow.Author.Needs.{needs}
 use Rattle.rest.proofs.vector_of.Statement.{statement}

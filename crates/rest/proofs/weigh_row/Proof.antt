@@ -1,5 +1,4 @@
 -- `rest::weigh_row` meets its contract: the products from a place on are summed. Assumes nothing.
-use Prim.Native.Nat.{_-_}
 use native.Mathlib.Omega.{arith}
 use Rattle.rest.specs.Vector.{Weighed, weighed-start, weighed-next, weighed-end}
 use borrow.Author.Needs.{needs}

@@ -4,16 +4,12 @@ use mathlib.Core.List.{List, []}
 use Prim.Native.Nat.{ℕ, _-_}
 use lib.ListN.{getD, set}
 use lib.Seq.{take-at}
-use Rattle.octets.specs.Rows.{addRow, fmaRow}
-use Rattle.second.specs.Store.{storeOf, act-add, act-fma}
+use Rattle.octets.specs.Rows.{addRow}
+use Rattle.second.specs.Store.{storeOf, act-add}
 use native.Mathlib.Omega.{arith}
 use borrow.Author.Needs.{needs}
 use Rattle.second.proofs.add_from.Statement.{statement}
 use Rattle.second.proofs.add_from.Tie as tie
-use Rattle.second.proofs.add_from.Reads as reads
-use Rattle.second.proofs.add_from.Lts as lts
-use Rattle.second.proofs.add_row.Reads as add-row-reads
-use Rattle.second.proofs.lift.Reads as lift-reads
 
 sub-n : tie.Need-sub-n
 sub-n c = search needs

@@ -2,15 +2,9 @@
 use mathlib.Core.Path.{_∙_, subst}
 use Rattle.oplist.specs.Ops.{Within}
 use Rattle.second.specs.Store.{act-scale}
-use native.Mathlib.Omega.{arith}
 use borrow.Author.Needs.{needs}
 use Rattle.second.proofs.apply.Statement.{statement}
 use Rattle.second.proofs.apply.Tie as tie
-use Rattle.second.proofs.apply.Reads as reads
-use Rattle.second.proofs.apply.Lts as lts
-use Rattle.second.proofs.add_from.Reads as add-from-reads
-use Rattle.second.proofs.fma_from.Reads as fma-from-reads
-use Rattle.second.proofs.scale_row.Reads as scale-row-reads
 
 enum-known-op : tie.Need-enum-known-op
 enum-known-op c = search needs

@@ -8,9 +8,6 @@ use native.Mathlib.Omega.{arith}
 use borrow.Author.Needs.{needs}
 use Rattle.second.proofs.apply_list.Statement.{statement}
 use Rattle.second.proofs.apply_list.Tie as tie
-use Rattle.second.proofs.apply_list.Reads as reads
-use Rattle.second.proofs.apply_list.Lts as lts
-use Rattle.second.proofs.apply_word.Reads as apply-word-reads
 
 abbrev Inv-loop : tie.InvT-loop
 Inv-loop work₀ m l i scratch₀ list k₀ work scratch k =

@@ -1,17 +1,12 @@
 -- `second::apply_word` meets its contract: a word of an unknown kind does nothing. Assumes nothing.
-use mathlib.Core.Path.{_≡_, sym, subst, _∙_}
+use mathlib.Core.Path.{sym, subst, _∙_}
 use mathlib.Core.List.{[]}
 use Rattle.oplist.specs.declared.Word.{Word}
 use Rattle.oplist.specs.Ops.{Within, Each}
 use Rattle.oplist.specs.Listed.{withOp}
-use native.Mathlib.Omega.{arith}
 use borrow.Author.Needs.{needs}
 use Rattle.second.proofs.apply_word.Statement.{statement}
 use Rattle.second.proofs.apply_word.Tie as tie
-use Rattle.second.proofs.apply_word.Reads as reads
-use Rattle.second.proofs.apply_word.Lts as lts
-use Rattle.oplist.proofs.unpack.Reads as unpack-reads
-use Rattle.second.proofs.apply.Reads as apply-reads
 
 unpack-requires : tie.Need-unpack-requires
 unpack-requires c κs = search needs

@@ -1,6 +1,6 @@
 -- `second::backward` meets its contract. The invariant: what is left to be noted from here makes the whole. Assumes nothing.
 use mathlib.Core.Path.{_≡_, refl}
-use Prim.Native.Nat.{ℕ, _+_, _-_, _≤_, _<_}
+use Prim.Native.Nat.{_+_, _-_, _≤_, _<_}
 use lib.ListN.{length, take, drop}
 use Rattle.tally.specs.Book.{book, Fair}
 use Rattle.second.specs.Store.{storeOf}
@@ -9,9 +9,6 @@ use native.Mathlib.Omega.{arith}
 use borrow.Author.Needs.{needs}
 use Rattle.second.proofs.backward.Statement.{statement}
 use Rattle.second.proofs.backward.Tie as tie
-use Rattle.second.proofs.backward.Reads as reads
-use Rattle.second.proofs.backward.Lts as lts
-use Rattle.second.proofs.clear_above.Reads as clear-above-reads
 
 abbrev Inv-loop : tie.InvT-loop
 Inv-loop work m l i d list₀ r₀ e₀ list r e =

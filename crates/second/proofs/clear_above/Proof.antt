@@ -13,10 +13,6 @@ use native.Mathlib.Omega.{arith}
 use borrow.Author.Needs.{needs}
 use Rattle.second.proofs.clear_above.Statement.{statement}
 use Rattle.second.proofs.clear_above.Tie as tie
-use Rattle.second.proofs.clear_above.Reads as reads
-use Rattle.second.proofs.clear_above.Lts as lts
-use Rattle.second.proofs.note_multiple.Reads as note-multiple-reads
-use Rattle.second.proofs.read.Reads as read-reads
 
 abbrev Inv-loop : tie.InvT-loop
 Inv-loop work m l i q x ys list₀ r₀ k₀ list r k =

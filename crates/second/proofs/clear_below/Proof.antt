@@ -12,9 +12,6 @@ use native.Mathlib.Omega.{arith}
 use borrow.Author.Needs.{needs}
 use Rattle.second.proofs.clear_below.Statement.{statement}
 use Rattle.second.proofs.clear_below.Tie as tie
-use Rattle.second.proofs.clear_below.Reads as reads
-use Rattle.second.proofs.clear_below.Lts as lts
-use Rattle.second.proofs.clear_row.Reads as clear-row-reads
 
 abbrev Inv-loop : tie.InvT-loop
 Inv-loop work₀ m l i q x ys scratch₀ list₀ r₀ k₀ work scratch list r k =

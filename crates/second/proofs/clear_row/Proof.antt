@@ -1,5 +1,5 @@
 -- `second::clear_row` meets its contract. Assumes nothing.
-use mathlib.Core.Path.{_≡_, _∙_, sym, ap}
+use mathlib.Core.Path.{_∙_, sym, ap}
 use mathlib.Core.List.{[], _∷_}
 use Prim.Native.Nat.{ℕ}
 use Rattle.oplist.specs.declared.Op.{Op}
@@ -9,11 +9,6 @@ use native.Mathlib.Omega.{arith}
 use borrow.Author.Needs.{needs}
 use Rattle.second.proofs.clear_row.Statement.{statement}
 use Rattle.second.proofs.clear_row.Tie as tie
-use Rattle.second.proofs.clear_row.Reads as reads
-use Rattle.second.proofs.clear_row.Lts as lts
-use Rattle.second.proofs.multiple_of.Reads as multiple-of-reads
-use Rattle.second.proofs.perform.Reads as perform-reads
-use Rattle.second.proofs.read.Reads as read-reads
 
 read-requires : tie.Need-read-requires
 read-requires c κs = search needs

@@ -9,9 +9,6 @@ use native.Mathlib.Omega.{arith}
 use borrow.Author.Needs.{needs}
 use Rattle.second.proofs.fill.Statement.{statement}
 use Rattle.second.proofs.fill.Tie as tie
-use Rattle.second.proofs.fill.Reads as reads
-use Rattle.second.proofs.fill.Lts as lts
-use Rattle.second.proofs.fill_combined.Reads as fill-combined-reads
 
 abbrev Inv-loop : tie.InvT-loop
 Inv-loop work₀ bits octs m l s h i cols y₀ work y =

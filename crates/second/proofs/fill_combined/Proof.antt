@@ -7,9 +7,6 @@ use native.Mathlib.Omega.{arith}
 use borrow.Author.Needs.{needs}
 use Rattle.second.proofs.fill_combined.Statement.{statement}
 use Rattle.second.proofs.fill_combined.Tie as tie
-use Rattle.second.proofs.fill_combined.Reads as reads
-use Rattle.second.proofs.fill_combined.Lts as lts
-use Rattle.second.proofs.fill_row.Reads as fill-row-reads
 
 fill-row-requires : tie.Need-fill-row-requires
 fill-row-requires c κs =

@@ -8,10 +8,6 @@ use native.Mathlib.Omega.{arith}
 use borrow.Author.Needs.{needs}
 use Rattle.second.proofs.fill_row.Statement.{statement}
 use Rattle.second.proofs.fill_row.Tie as tie
-use Rattle.second.proofs.fill_row.Reads as reads
-use Rattle.second.proofs.fill_row.Lts as lts
-use Rattle.second.proofs.cell.Reads as cell-reads
-use Rattle.second.proofs.gather.Reads as gather-reads
 
 cell-requires : tie.Need-cell-requires
 cell-requires c κs = search needs

@@ -1,16 +1,12 @@
 -- `second::fma_row` meets its contract: the part of the row is lent, and comes back changed. Assumes nothing.
 use mathlib.Core.List.{List}
 use Prim.Native.Nat.{ℕ}
-use Rattle.octets.specs.Rows.{addRow, scaleRow, fmaRow}
+use Rattle.octets.specs.Rows.{fmaRow}
 use Rattle.second.specs.Store.{row-made}
 use native.Mathlib.Omega.{arith}
 use borrow.Author.Needs.{needs}
 use Rattle.second.proofs.fma_row.Statement.{statement}
 use Rattle.second.proofs.fma_row.Tie as tie
-use Rattle.second.proofs.fma_row.Reads as reads
-use Rattle.second.proofs.fma_row.Lts as lts
-use Rattle.octets.proofs.fma.Reads as fma-reads
-use Rattle.second.proofs.cell.Reads as cell-reads
 
 cell-requires : tie.Need-cell-requires
 cell-requires c κs = search needs

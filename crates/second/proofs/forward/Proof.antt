@@ -14,10 +14,6 @@ use native.Mathlib.Omega.{arith}
 use borrow.Author.Needs.{needs}
 use Rattle.second.proofs.forward.Statement.{statement}
 use Rattle.second.proofs.forward.Tie as tie
-use Rattle.second.proofs.forward.Reads as reads
-use Rattle.second.proofs.forward.Lts as lts
-use Rattle.second.proofs.pivot_step.Reads as pivot-step-reads
-use Rattle.second.proofs.read.Reads as read-reads
 
 abbrev Inv-rows : tie.InvT-rows
 Inv-rows work m l i d scratch list r q p₀ p =

@@ -1,16 +1,13 @@
 -- `second::gather` meets its contract. The loop makes the row from the front. Assumes nothing.
-use mathlib.Core.Path.{_≡_, sym, _∙_}
+use mathlib.Core.Path.{sym, _∙_}
 use mathlib.Core.List.{map}
 use Prim.Native.Nat.{ℕ, _-_, _<_}
 use lib.ListN.{length, getD, length-map}
 use Rattle.loops.specs.Front.{Front, begin, turn, end}
 use Rattle.second.specs.Fill.{getD-map-below}
 use native.Mathlib.Omega.{arith}
-use borrow.Author.Needs.{needs}
 use Rattle.second.proofs.gather.Statement.{statement}
 use Rattle.second.proofs.gather.Tie as tie
-use Rattle.second.proofs.gather.Reads as reads
-use Rattle.second.proofs.gather.Lts as lts
 
 abbrev Inv-loop : tie.InvT-loop
 Inv-loop dest₀ row cols k₀ dest k = Front (map (λ (q : ℕ). getD row q 0) cols) dest₀ dest k

@@ -1,14 +1,9 @@
 -- `second::lift` meets its contract. Assumes nothing.
 use mathlib.Core.Path.{_∙_}
 use Rattle.second.specs.Store.{row-part}
-use native.Mathlib.Omega.{arith}
 use borrow.Author.Needs.{needs}
 use Rattle.second.proofs.lift.Statement.{statement}
 use Rattle.second.proofs.lift.Tie as tie
-use Rattle.second.proofs.lift.Reads as reads
-use Rattle.second.proofs.lift.Lts as lts
-use Rattle.second.proofs.cell.Reads as cell-reads
-use Rattle.second.proofs.copy.Reads as copy-reads
 
 cell-requires : tie.Need-cell-requires
 cell-requires c κs = search needs

@@ -3,11 +3,8 @@ use mathlib.Core.Path.{_∙_, sym, ap}
 use Prim.Native.Nat.{ℕ}
 use Rattle.second.specs.Clear.{multiple, multiple-one, multiple-more}
 use native.Mathlib.Omega.{arith}
-use borrow.Author.Needs.{needs}
 use Rattle.second.proofs.multiple_of.Statement.{statement}
 use Rattle.second.proofs.multiple_of.Tie as tie
-use Rattle.second.proofs.multiple_of.Reads as reads
-use Rattle.second.proofs.multiple_of.Lts as lts
 
 returns : tie.Need-returns
 returns c = sym (ap (λ (n : ℕ). multiple n (c .before .args .y) (c .before .args .x)) (c .if1 .taken) ∙ multiple-one _ _)

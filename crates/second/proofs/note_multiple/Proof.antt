@@ -1,5 +1,5 @@
 -- `second::note_multiple` meets its contract. Assumes nothing.
-use mathlib.Core.Path.{_≡_, sym, ap, _∙_}
+use mathlib.Core.Path.{sym, ap, _∙_}
 use mathlib.Core.List.{[], _∷_}
 use Prim.Native.Nat.{ℕ}
 use Rattle.oplist.specs.declared.Op.{Op}
@@ -10,10 +10,6 @@ use native.Mathlib.Omega.{arith}
 use borrow.Author.Needs.{needs}
 use Rattle.second.proofs.note_multiple.Statement.{statement}
 use Rattle.second.proofs.note_multiple.Tie as tie
-use Rattle.second.proofs.note_multiple.Reads as reads
-use Rattle.second.proofs.note_multiple.Lts as lts
-use Rattle.second.proofs.multiple_of.Reads as multiple-of-reads
-use Rattle.tally.proofs.record.Reads as record-reads
 
 returns : tie.Need-returns
 returns c = cleared-as (ap (λ (n : ℕ). entry n (c .before .before .args .y) (c .before .before .args .x) []) (sym (c .if1 .taken))) cleared-none

@@ -1,13 +1,8 @@
 -- `second::perform` meets its contract. Assumes nothing.
 use Rattle.second.specs.Clear.{performed-one}
-use native.Mathlib.Omega.{arith}
 use borrow.Author.Needs.{needs}
 use Rattle.second.proofs.perform.Statement.{statement}
 use Rattle.second.proofs.perform.Tie as tie
-use Rattle.second.proofs.perform.Reads as reads
-use Rattle.second.proofs.perform.Lts as lts
-use Rattle.second.proofs.apply.Reads as apply-reads
-use Rattle.tally.proofs.record.Reads as record-reads
 
 apply-requires : tie.Need-apply-requires
 apply-requires c κs = search needs

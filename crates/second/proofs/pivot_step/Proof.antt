@@ -8,11 +8,6 @@ use native.Mathlib.Omega.{arith}
 use borrow.Author.Needs.{needs}
 use Rattle.second.proofs.pivot_step.Statement.{statement}
 use Rattle.second.proofs.pivot_step.Tie as tie
-use Rattle.second.proofs.pivot_step.Reads as reads
-use Rattle.second.proofs.pivot_step.Lts as lts
-use Rattle.second.proofs.clear_below.Reads as clear-below-reads
-use Rattle.second.proofs.scale_pivot.Reads as scale-pivot-reads
-use Rattle.second.proofs.swap.Reads as swap-reads
 
 swap-requires : tie.Need-swap-requires
 swap-requires c κs = search needs

@@ -1,13 +1,9 @@
 -- `second::read` meets its contract. Assumes nothing.
 use mathlib.Core.Path.{sym}
 use Rattle.second.specs.Store.{at-storeOf}
-use native.Mathlib.Omega.{arith}
 use borrow.Author.Needs.{needs}
 use Rattle.second.proofs.read.Statement.{statement}
 use Rattle.second.proofs.read.Tie as tie
-use Rattle.second.proofs.read.Reads as reads
-use Rattle.second.proofs.read.Lts as lts
-use Rattle.second.proofs.cell.Reads as cell-reads
 
 cell-requires : tie.Need-cell-requires
 cell-requires c κs = search needs

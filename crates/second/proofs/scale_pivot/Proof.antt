@@ -1,5 +1,5 @@
 -- `second::scale_pivot` meets its contract: an entry of one, or none, asks nothing. Assumes nothing.
-use mathlib.Core.Path.{_≡_, _∙_, sym, ap}
+use mathlib.Core.Path.{_∙_, sym, ap}
 use Prim.Native.Nat.{ℕ, _<_}
 use Rattle.phases.specs.Two.{scaled}
 use Rattle.second.specs.Clear.{scaled-none, scaled-some, quotient-octet, performed-as, performed-none}
@@ -7,11 +7,6 @@ use native.Mathlib.Omega.{arith}
 use borrow.Author.Needs.{needs}
 use Rattle.second.proofs.scale_pivot.Statement.{statement}
 use Rattle.second.proofs.scale_pivot.Tie as tie
-use Rattle.second.proofs.scale_pivot.Reads as reads
-use Rattle.second.proofs.scale_pivot.Lts as lts
-use Rattle.octet.proofs.Octet.div.Reads as div-reads
-use Rattle.second.proofs.perform.Reads as perform-reads
-use Rattle.second.proofs.read.Reads as read-reads
 
 read-requires : tie.Need-read-requires
 read-requires c κs = search needs

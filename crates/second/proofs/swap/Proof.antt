@@ -1,12 +1,9 @@
 -- `second::swap` meets its contract. Assumes nothing.
 use mathlib.Core.Path.{refl}
 use Rattle.second.specs.Swap.{swapped}
-use native.Mathlib.Omega.{arith}
 use borrow.Author.Needs.{needs}
 use Rattle.second.proofs.swap.Statement.{statement}
 use Rattle.second.proofs.swap.Tie as tie
-use Rattle.second.proofs.swap.Reads as reads
-use Rattle.second.proofs.swap.Lts as lts
 
 mul-x : tie.Need-mul-x
 mul-x c = search needs

@@ -1,6 +1,6 @@
 -- `slab::replay` meets its contract. Assumes nothing.
 use mathlib.Core.Path.{sym, _∙_}
-use Rattle.slab.specs.Replay.{replayed}
+use Rattle.slab.specs.Replay.{replayed, replay-met}
 use Rattle.slab.specs.Passed.{passed, all-placed}
 use native.Mathlib.Omega.{arith}
 use borrow.Author.Needs.{needs}
@@ -28,25 +28,25 @@ apply-all-requires c κs = all-placed (passed _ _ _ _ _ _ _ (sym (c .before .bef
 
 returns : tie.Need-returns
 unfolding replayed
-returns c = rw (sym (c .before .before .check-call .ensures) ∙ c .enum-told .given .1)
+returns c = replay-met (rw (sym (c .before .before .check-call .ensures) ∙ c .enum-told .given .1))
 
 returns-2 : tie.Need-returns-2
 unfolding replayed
-returns-2 c = rw (sym (c .before .before .check-call .ensures) ∙ c .enum-told2 .given .1)
+returns-2 c = replay-met (rw (sym (c .before .before .check-call .ensures) ∙ c .enum-told2 .given .1))
 
 same-length : tie.Need-same-length
 same-length c = search needs
 
 returns-3 : tie.Need-returns-3
 unfolding replayed
-returns-3 c = rw (sym (c .before .before .before .before .before .before .before .check-call .ensures) ∙ c .before .before .before .before .before .enum-told3 .given .1, c .if1 .taken, c .before .before .before .apply-all .ensures)
+returns-3 c = replay-met (rw (sym (c .before .before .before .before .before .before .before .check-call .ensures) ∙ c .before .before .before .before .before .enum-told3 .given .1, c .if1 .taken, c .before .before .before .apply-all .ensures))
 
 same-length-2 : tie.Need-same-length-2
 same-length-2 c = search needs
 
 returns-4 : tie.Need-returns-4
 unfolding replayed
-returns-4 c = rw (sym (c .before .before .before .before .before .before .before .check-call .ensures) ∙ c .before .before .before .before .before .enum-told3 .given .1, c .if1 .left, c .before .before .before .apply-all .ensures)
+returns-4 c = replay-met (rw (sym (c .before .before .before .before .before .before .before .check-call .ensures) ∙ c .before .before .before .before .before .enum-told3 .given .1, c .if1 .left, c .before .before .before .apply-all .ensures))
 
 pub replay-spec : {M : Type 1} → statement M
 replay-spec =

@@ -1,6 +1,6 @@
 -- `slab::undo` meets its contract. Assumes nothing.
 use mathlib.Core.Path.{sym, _∙_}
-use Rattle.slab.specs.Replay.{undone}
+use Rattle.slab.specs.Replay.{undone, undo-met}
 use Rattle.slab.specs.Passed.{passed, all-placed}
 use borrow.Author.Tests.{not-true, not-false}
 use native.Mathlib.Omega.{arith}
@@ -30,25 +30,25 @@ can-undo-requires c κs = search needs
 
 returns : tie.Need-returns
 unfolding undone
-returns c = rw (sym (c .before .before .before .before .check-call .ensures) ∙ c .before .before .enum-told3 .given .1, sym (c .before .can-undo .ensures) ∙ not-true _ (c .if1 .taken))
+returns c = undo-met (rw (sym (c .before .before .before .before .check-call .ensures) ∙ c .before .before .enum-told3 .given .1, sym (c .before .can-undo .ensures) ∙ not-true _ (c .if1 .taken)))
 
 undo-all-requires : tie.Need-undo-all-requires
 undo-all-requires c κs = all-placed (passed _ _ _ _ _ _ _ (sym (c .before .before .before .before .before .check-call .ensures) ∙ c .before .before .before .enum-told3 .given .1))
 
 returns-2 : tie.Need-returns-2
 unfolding undone
-returns-2 c = rw (sym (c .before .before .check-call .ensures) ∙ c .enum-told .given .1)
+returns-2 c = undo-met (rw (sym (c .before .before .check-call .ensures) ∙ c .enum-told .given .1))
 
 returns-3 : tie.Need-returns-3
 unfolding undone
-returns-3 c = rw (sym (c .before .before .check-call .ensures) ∙ c .enum-told2 .given .1)
+returns-3 c = undo-met (rw (sym (c .before .before .check-call .ensures) ∙ c .enum-told2 .given .1))
 
 same-length : tie.Need-same-length
 same-length c = search needs
 
 returns-4 : tie.Need-returns-4
 unfolding undone
-returns-4 c = rw (sym (c .before .before .before .before .before .before .before .before .check-call .ensures) ∙ c .before .before .before .before .before .before .enum-told3 .given .1, sym (c .before .before .before .before .before .can-undo .ensures) ∙ not-false _ (c .before .before .before .before .if1 .left), c .before .before .undo-all .ensures)
+returns-4 c = undo-met (rw (sym (c .before .before .before .before .before .before .before .before .check-call .ensures) ∙ c .before .before .before .before .before .before .enum-told3 .given .1, sym (c .before .before .before .before .before .can-undo .ensures) ∙ not-false _ (c .before .before .before .before .if1 .left), c .before .before .undo-all .ensures))
 
 pub undo-spec : {M : Type 1} → statement M
 undo-spec =
