@@ -2,6 +2,7 @@
 --   notes           a journal after a list of operations, `note` being what one operation does to it
 --   Log             the words of the room, and the count: at most the room, or one above it once an operation found no place
 --   put, puts       one operation more; a list of them
+--   puts-append     lists after each other
 --   puts-fit        a list that fits stands in the room, word after word
 --   puts-over       after one that does not fit the count is one above the room
 -- Assumes nothing.
@@ -44,6 +45,10 @@ module _ {O : Type 0} (code : O → ℕ) where
 
   unfoldable pub puts : Log → List O → Log
   puts g os = notes put g os
+
+  pub puts-append : (g : Log) (a b : List O) → puts g (a ++ b) ≡ puts (puts g a) b
+  unfolding puts
+  puts-append g a b = notes-append put g a b
 
   pub put-fits : (ws : List ℕ) (n : ℕ) (o : O) → n < length ws → put (log ws n) o ≡ log (set ws n (code o)) (n + 1)
   unfolding put

@@ -9,17 +9,19 @@
 --   Order                           l entries below m, none twice
 --   orderFine-order, order-orderFine   the check of an order is just that
 --   undoable-each, each-undoable       the check for undo is just that no MulAssign is by zero
+--   has-hit, has-miss, has-over       a search finds the entry, goes on, is over
+--   rows-high, rows-twice, rows-next, rows-over   a check of entries fails by a bound or a repeat, goes on, is over
 --   listFine-drop, rowsFine-drop, has-drop, undoable-drop   the checks, entry by entry
 -- Assumes nothing.
 use Prim.Native.Nat.{ℕ, zero, suc, _+_, _<_, _≤_}
-use mathlib.Core.Path.{_≡_, refl, sym, ap, ap₂, _∙_, subst}
+use mathlib.Core.Path.{_≡_, refl, sym, ap, _∙_}
 use mathlib.Core.Logic.{_≢_}
 use mathlib.Core.Bool.{Bool, true, false, not, _&&_, _||_}
 use mathlib.Core.List.{List, [], _∷_}
 use native.Mathlib.Omega.{arith}
-use borrow.Author.Tests.{leb-true, ltb-true, eqb-true, eqb-false, le-leb, lt-ltb, eq-eqb, ne-eqb, not-true}
+use borrow.Author.Tests.{leb-true, ltb-true, eqb-true, eqb-false, le-leb, lt-ltb, le-ltb, eq-eqb, ne-eqb, not-true}
 use lib.Dec.{leb, ltb, eqb}
-use lib.ListN.{length, getD, drop}
+use lib.ListN.{length, getD, drop, drop-of-length-le}
 use Rattle.oplist.specs.declared.Op.{Op}
 use Rattle.oplist.specs.declared.Op.the-variants.{AddAssign, MulAssign, FMA}
 use Rattle.oplist.specs.declared.Word.{Word}
@@ -183,6 +185,31 @@ pub rowsFine-drop : (m : ℕ) (xs : List ℕ) (k : ℕ) → k < length xs
     → rowsFine m (drop k xs) ≡ (ltb (getD xs k 0) m && (not (has (getD xs k 0) (drop (k + 1) xs)) && rowsFine m (drop (k + 1) xs)))
 unfolding rowsFine
 rowsFine-drop m xs k h = rw (drop-next xs k h)
+
+module _ (x : ℕ) (xs : List ℕ) (a k : ℕ) (inv : has x (drop a xs) ≡ has x (drop k xs)) where
+  pub has-hit : k < length xs → getD xs k 0 ≡ x → true ≡ has x (drop a xs)
+  has-hit h e = sym (inv ∙ has-drop x xs k h ∙ rw (eq-eqb (getD xs k 0) x e))
+
+  pub has-miss : k < length xs → (getD xs k 0 ≡ x → ⊥) → has x (drop a xs) ≡ has x (drop (k + 1) xs)
+  has-miss h e = inv ∙ has-drop x xs k h ∙ rw (ne-eqb (getD xs k 0) x e)
+
+  pub has-over : length xs ≤ k → false ≡ has x (drop a xs)
+  unfolding has
+  has-over h = sym (inv ∙ ap (has x) (drop-of-length-le xs h))
+
+module _ (m : ℕ) (xs : List ℕ) (k : ℕ) (inv : rowsFine m xs ≡ rowsFine m (drop k xs)) where
+  pub rows-high : k < length xs → m ≤ getD xs k 0 → false ≡ rowsFine m xs
+  rows-high h e = sym (inv ∙ rowsFine-drop m xs k h ∙ rw (le-ltb (getD xs k 0) m e))
+
+  pub rows-twice : k < length xs → getD xs k 0 < m → has (getD xs k 0) (drop (k + 1) xs) ≡ true → false ≡ rowsFine m xs
+  rows-twice h e t = sym (inv ∙ rowsFine-drop m xs k h ∙ rw (lt-ltb (getD xs k 0) m e, t))
+
+  pub rows-next : k < length xs → getD xs k 0 < m → has (getD xs k 0) (drop (k + 1) xs) ≡ false → rowsFine m xs ≡ rowsFine m (drop (k + 1) xs)
+  rows-next h e t = inv ∙ rowsFine-drop m xs k h ∙ rw (lt-ltb (getD xs k 0) m e, t)
+
+  pub rows-over : length xs ≤ k → true ≡ rowsFine m xs
+  unfolding rowsFine
+  rows-over h = sym (inv ∙ ap (rowsFine m) (drop-of-length-le xs h))
 
 has-at : (x : ℕ) (xs : List ℕ) (i : ℕ) → i < length xs → getD xs i 0 ≡ x → has x xs ≡ true
 unfolding has

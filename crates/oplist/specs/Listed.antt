@@ -4,22 +4,24 @@
 --   opsOf-append, opsOf-drop, opsOf-take   of words joined, left from a place on, and up to a place
 --   opsOf-packed, known-packed             the words of a list say that list
 --   packed-opsOf, length-opsOf             known words are those of the list that they say, as many
+--   room-says                 a list that was recorded and fits stands at the front of its room
 --   small-opsOf               what words say has fields that fit
 --   drop-next                 what is left from a place on is the entry there, and what is left from the next on
 -- Assumes nothing.
-use Prim.Native.Nat.{ℕ, suc, _+_, _<_}
+use Prim.Native.Nat.{ℕ, suc, _+_, _≤_, _<_}
 use mathlib.Core.Path.{_≡_, refl, sym, ap, ap₂, _∙_}
 use mathlib.Core.Bool.{Bool, true, false, _&&_}
 use mathlib.Core.List.{List, [], _∷_, _++_, map}
 use native.Mathlib.Numerals.{add-one}
 use native.Mathlib.Omega.{arith}
-use lib.ListN.{length, getD, take, drop}
-use lib.Seq.{drop-cons, take-suc}
+use lib.ListN.{length, getD, take, drop, length-map}
+use lib.Seq.{drop-cons, take-suc, take-at, sets-eq}
+use Rattle.loops.specs.Room.{Log, log, puts, puts-fit}
 use Rattle.oplist.specs.declared.Op.{Op}
 use Rattle.oplist.specs.declared.Word.{Word}
 use Rattle.oplist.specs.declared.Word.the-variants.{Known, Unknown}
 use Rattle.oplist.specs.Ops.{Each}
-use Rattle.oplist.specs.Word.{Small, packed, meaning, Packs, meaning-packed, packed-meaning}
+use Rattle.oplist.specs.Word.{Small, packed, meaning, meaning-packed, packed-meaning}
 
 abbrev pub isKnown : Word → Bool
 isKnown (Known o) = true
@@ -94,3 +96,11 @@ small-opsOf (w ∷ ws) = at (meaning w) refl (small-opsOf ws)
     at : (m : Word) → meaning w ≡ m → Each Small (opsOf ws) → Each Small (withOp m (opsOf ws))
     at (Known o) e ih = (packed-meaning w o e .small, ih)
     at Unknown e ih = ih
+
+pub room-says : (os : List Op) (ws : List ℕ) → length os ≤ length ws → Each Small os → opsOf (take (length os) (puts packed (log ws 0) os .words)) ≡ os
+room-says os ws h k =
+    let n = length-map os packed in
+    let z : 0 + length os ≡ length os = omega arith in
+    ap (λ (g : Log). opsOf (take (length os) (g .words))) (puts-fit packed os ws 0 (omega arith))
+    ∙ ap (λ (l : List ℕ). opsOf (take (length os) l)) (sets-eq (map packed os) ws 0 (omega arith))
+    ∙ ap opsOf (take-at (map packed os) (drop (0 + length (map packed os)) ws) (length os) n) ∙ opsOf-packed os k

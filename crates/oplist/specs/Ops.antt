@@ -1,5 +1,6 @@
 -- The operations of a list.
 --   dest, source   the row that an operation writes, and the one that it reads besides
+--   scalar         the factor of an operation; AddAssign has none, and 0 here
 --   Within         the rows are below m
 --   Apart          dest is not src, in AddAssign and FMA
 --   Nonzero        no MulAssign by zero
@@ -21,6 +22,11 @@ abbrev pub source : Op → ℕ
 source (AddAssign d s) = s
 source (MulAssign d c) = d
 source (FMA d s c) = s
+
+abbrev pub scalar : Op → ℕ
+scalar (AddAssign d s) = 0
+scalar (MulAssign d c) = c
+scalar (FMA d s c) = c
 
 abbrev pub Within : ℕ → Op → Type 0
 Within m (AddAssign d s) = (d < m) × (s < m)

@@ -6,6 +6,7 @@
 --   Small                            an operation's fields fit their places in a word
 --   Fields, fields                   the fields of a word that was made from fields which fit
 --   meaning-packed, packed-meaning   each undoes the other
+--   small-within                     rows below 65,536 and an octet as scalar fit
 --   packed-small, packed-one         the word of an operation fits 64 bits; two operations have two words
 -- Assumes nothing.
 use Prim.Native.Nat.{ℕ, _+_, _*_, _/_, _%_, _^_, _<_, _≤_}
@@ -19,6 +20,7 @@ use Rattle.oplist.specs.declared.Op.{Op}
 use Rattle.oplist.specs.declared.Op.the-variants.{AddAssign, MulAssign, FMA}
 use Rattle.oplist.specs.declared.Word.{Word}
 use Rattle.oplist.specs.declared.Word.the-variants.{Known, Unknown}
+use Rattle.oplist.specs.Ops.{Within, scalar}
 
 abbrev pub word : ℕ → ℕ → ℕ → ℕ → ℕ
 word kind scalar dest src = kind * 1099511627776 + scalar * 4294967296 + dest * 65536 + src
@@ -55,6 +57,11 @@ abbrev pub Small : Op → Type 0
 Small (AddAssign d s) = (d < 65536) × (s < 65536)
 Small (MulAssign d x) = (d < 65536) × (x < 256)
 Small (FMA d s x) = (d < 65536) × (s < 65536) × (x < 256)
+
+pub small-within : (m : ℕ) → m ≤ 65536 → (o : Op) → Within m o → scalar o < 256 → Small o
+small-within m few (AddAssign d s) w h = (omega (arith, w .0), omega (arith, w .1))
+small-within m few (MulAssign d x) w h = (omega (arith, w .0), h)
+small-within m few (FMA d s x) w h = (omega (arith, w .0), omega (arith, w .1), h)
 
 pub record Fields (w k x d s : ℕ) : Type 0 where
   pub kind : kindOf w ≡ k

@@ -11,9 +11,8 @@
 --   laid-done, length-done      the same of a list that is written, and that it fits the room
 -- Assumes nothing.
 use Prim.Native.Nat.{ℕ, zero, suc, _+_, _-_, _*_, _/_, _%_, _<_, _≤_}
-use mathlib.Core.Path.{_≡_, refl, sym, ap, ap₂, _∙_, subst}
-use mathlib.Core.Logic.{_≢_}
-use mathlib.Core.Bool.{Bool, true, false, _&&_}
+use mathlib.Core.Path.{_≡_, refl, sym, ap, ap₂, _∙_}
+use mathlib.Core.Bool.{Bool, true, false}
 use mathlib.Core.List.{List, [], _∷_, _++_}
 use native.Mathlib.Omega.{arith}
 use lib.ListN.{length, getD, length-append, List·getD-append}
@@ -25,8 +24,8 @@ use Rattle.oplist.specs.declared.Word.the-variants.{Known, Unknown}
 use Rattle.oplist.specs.Word.{word, Small, packed, meaning, packed-meaning}
 use Rattle.oplist.specs.Listed.{withOp, opsOf, length-opsOf}
 use Rattle.oplist.specs.Check.{wordFine, listFine, orderFine, shapeFine}
-use Rattle.oplist.specs.Facts.{and-left, and-right, never, Fine, opFine-fine, listFine-known, Shape, shapeFine-shape, Order, orderFine-order}
-use Rattle.stored.specs.Bytes.{digits2, digits4, Bytes}
+use Rattle.oplist.specs.Facts.{and-left, and-right, never, Fine, opFine-fine, listFine-known, shapeFine-shape, orderFine-order}
+use Rattle.stored.specs.Bytes.{digits2, digits4}
 use Rattle.stored.specs.Accepted.{Accepts}
 use Rattle.stored.specs.Form.{formSize, opBytes, opsBytes, orderBytes, orderSize, formOf}
 

@@ -6,3 +6,4 @@ pub mod Formed
 pub mod Accepted
 pub mod Laid
 pub mod Round
+pub mod Example

@@ -27,13 +27,13 @@ use Rattle.oplist.specs.Facts.{never, listFine-known, shapeFine-shape}
 use Rattle.stored.specs.declared.Reading.{Reading}
 use Rattle.stored.specs.declared.Reading.the-variants as read
 use Rattle.stored.specs.declared.Written.the-variants as written
-use Rattle.stored.specs.Bytes.{number2, number4, digits2, digits4, Bytes, padded, number2-digits2, number4-digits4, digits2-number2, digits4-number4}
+use Rattle.stored.specs.Bytes.{number4, digits2, digits4, Bytes, padded, number2-digits2, number4-digits4, digits2-number2, digits4-number4}
 use Rattle.stored.specs.Form.{opBytes, opsBytes, orderBytes, orderSize, formSize, formOf, rowsIn, columnsIn, opsIn, flagIn, orderedIn, wordAt, wordsAt, wordsIn, orderIn, unusedAt, unusedFine}
 use Rattle.stored.specs.Answers.{judged, got, readOf, putIn, writeOf}
 use Rattle.stored.specs.Scan.{length-wordsAt}
 use Rattle.stored.specs.Formed.{Formed}
-use Rattle.stored.specs.Accepted.{Accepted, Kept, Accepts, length-orderIn, accepted-judged, judged-accepted, accepts-judged, kept-read, done-write}
-use Rattle.stored.specs.Laid.{headOf, laid, length-laid, laid-form}
+use Rattle.stored.specs.Accepted.{Accepted, Kept, Accepts, length-orderIn, accepted-judged, accepts-judged}
+use Rattle.stored.specs.Laid.{headOf, length-laid, laid-form}
 
 abbrev pub entries : Bool → List ℕ → List ℕ
 entries true order = order

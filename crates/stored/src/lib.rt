@@ -4,9 +4,8 @@ ghost use mathlib.Core.List.{[]};
 ghost use Prim.Native.Nat.{_+_, _*_, _%_, _≤_, _<_};
 ghost use lib.ListN.{length, drop, getD};
 ghost use Rattle.oplist.specs.Check.{listFine, has, rowsFine, orderFine};
-ghost use Rattle.oplist.specs.Listed.{opsOf};
 ghost use Rattle.stored.specs.Bytes.{number2, number4, padded};
-ghost use Rattle.stored.specs.Form.{orderSize, formSize, wordAt, wordsAt, unusedAt, unusedFine, formFine, formOf};
+ghost use Rattle.stored.specs.Form.{orderSize, wordAt, wordsAt, unusedAt, unusedFine, formFine};
 ghost use Rattle.stored.specs.Laid.{headOf, wordBytes, tailBytes, laid};
 ghost use Rattle.stored.specs.Answers.{judgedBy, judged, got, readOf, judgedList, putIn, writeOf};
 
@@ -70,7 +69,7 @@ fn number4(form: &[u8], at: usize) -> usize
 }
 
 // How many entries an order has, or the lack of one.
-fn order_size(ordered: bool, l: usize) -> usize
+pub fn order_size(ordered: bool, l: usize) -> usize
     ensures { λ r. ⌜ (r ≡ orderSize ordered l) × (r ≤ l) ⌝ }
 {
     if ordered {
@@ -161,33 +160,33 @@ fn words_fine(m: usize, form: &[u8], n: usize) -> bool
     true
 }
 
-// Whether x stands in the order at `from` or after it.
-fn stands(order: &[u8], from: usize, x: u8) -> bool
-    ensures { λ r. ⌜ r ≡ has x (drop from (now (order .entry))) ⌝ }
+// Whether x stands among the entries at `from` or after it.
+fn stands(entries: &[u8], from: usize, x: u8) -> bool
+    ensures { λ r. ⌜ r ≡ has x (drop from (now (entries .entry))) ⌝ }
 {
-    let mut k = from;
-    while k < order.len() {
-        if order[k] == x {
+    let mut i = from;
+    while i < entries.len() {
+        if entries[i] == x {
             return true;
         }
-        k += 1;
+        i += 1;
     }
     false
 }
 
-fn rows_fine(m: usize, order: &[u8]) -> bool
-    ensures { λ r. ⌜ r ≡ rowsFine m (now (order .entry)) ⌝ }
+fn rows_fine(m: usize, entries: &[u8]) -> bool
+    ensures { λ r. ⌜ r ≡ rowsFine m (now (entries .entry)) ⌝ }
 {
-    let mut k = 0;
-    while k < order.len() {
-        let x = order[k];
+    let mut i = 0;
+    while i < entries.len() {
+        let x = entries[i];
         if m <= wide(x) {
             return false;
         }
-        if stands(order, k + 1, x) {
+        if stands(entries, i + 1, x) {
             return false;
         }
-        k += 1;
+        i += 1;
     }
     true
 }

@@ -1,11 +1,10 @@
 -- `oplist::rows_fine` meets its contract: what is left to look at decides the same. Assumes nothing.
 use Prim.Native.Nat.{_-_}
-use mathlib.Core.Path.{_≡_, refl, sym, ap, _∙_}
+use mathlib.Core.Path.{_≡_, refl, sym, _∙_}
 use borrow.Author.Needs.{needs}
-use borrow.Author.Tests.{lt-ltb, le-ltb}
-use lib.ListN.{length, drop, drop-of-length-le}
+use lib.ListN.{length, drop}
+use Rattle.oplist.specs.Facts.{rows-high, rows-twice, rows-next, rows-over}
 use Rattle.oplist.specs.Check.{rowsFine}
-use Rattle.oplist.specs.Facts.{rowsFine-drop}
 use Rattle.oplist.proofs.rows_fine.Statement.{statement}
 use Rattle.oplist.proofs.rows_fine.Tie as tie
 
@@ -25,9 +24,7 @@ shared-slice-read-x : tie.Need-shared-slice-read-x Inv-loop μ-loop
 shared-slice-read-x c = search needs
 
 returns : tie.Need-returns Inv-loop μ-loop
-returns c =
-    let t = c .before .before in
-    sym (t .before .loop .inv ∙ rowsFine-drop _ _ _ (t .loop-test .taken) ∙ rw (le-ltb _ _ (c .if1 .taken)))
+returns c = rows-high _ _ _ (c .before .before .before .loop .inv) (c .before .before .loop-test .taken) (c .if1 .taken)
 
 add-stands : tie.Need-add-stands Inv-loop μ-loop
 add-stands c = search needs
@@ -36,9 +33,7 @@ stands-requires : tie.Need-stands-requires Inv-loop μ-loop
 stands-requires c κs = search needs
 
 returns-2 : tie.Need-returns-2 Inv-loop μ-loop
-returns-2 c =
-    let t = c .before .before .before .before in
-    sym (t .before .loop .inv ∙ rowsFine-drop _ _ _ (t .loop-test .taken) ∙ rw (lt-ltb _ _ (c .before .before .if1 .left), sym (c .before .stands .ensures) ∙ c .if2 .taken))
+returns-2 c = rows-twice _ _ _ (c .before .before .before .before .before .loop .inv) (c .before .before .before .before .loop-test .taken) (c .before .before .if1 .left) (sym (c .before .stands .ensures) ∙ c .if2 .taken)
 
 add-k : tie.Need-add-k Inv-loop μ-loop
 add-k c = search needs
@@ -47,13 +42,10 @@ loop-less : tie.Need-loop-less Inv-loop μ-loop
 loop-less c = search needs
 
 loop-again : tie.Need-loop-again Inv-loop μ-loop
-loop-again c =
-    let t = c .before .before .before .before in
-    t .before .loop .inv ∙ rowsFine-drop _ _ _ (t .loop-test .taken) ∙ rw (lt-ltb _ _ (c .before .before .if1 .left), sym (c .before .stands .ensures) ∙ c .if2 .left)
+loop-again c = rows-next _ _ _ (c .before .before .before .before .before .loop .inv) (c .before .before .before .before .loop-test .taken) (c .before .before .if1 .left) (sym (c .before .stands .ensures) ∙ c .if2 .left)
 
 returns-3 : tie.Need-returns-3 Inv-loop μ-loop
-unfolding rowsFine
-returns-3 c = sym (c .before .loop .inv ∙ ap (rowsFine _) (drop-of-length-le _ (c .loop-test .left)))
+returns-3 c = rows-over _ _ _ (c .before .loop .inv) (c .loop-test .left)
 
 pub rows-fine-spec : {M : Type 1} → statement M
 rows-fine-spec =

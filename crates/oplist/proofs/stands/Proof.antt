@@ -1,11 +1,10 @@
 -- `oplist::stands` meets its contract: what is left to look at decides the same. Assumes nothing.
 use Prim.Native.Nat.{_-_}
-use mathlib.Core.Path.{_≡_, refl, sym, ap, _∙_}
+use mathlib.Core.Path.{_≡_, refl}
 use borrow.Author.Needs.{needs}
-use borrow.Author.Tests.{eq-eqb, ne-eqb}
-use lib.ListN.{length, drop, drop-of-length-le}
+use lib.ListN.{length, drop}
+use Rattle.oplist.specs.Facts.{has-hit, has-miss, has-over}
 use Rattle.oplist.specs.Check.{has}
-use Rattle.oplist.specs.Facts.{has-drop}
 use Rattle.oplist.proofs.stands.Statement.{statement}
 use Rattle.oplist.proofs.stands.Tie as tie
 
@@ -25,9 +24,7 @@ shared-slice-read-if1 : tie.Need-shared-slice-read-if1 Inv-loop μ-loop
 shared-slice-read-if1 c = search needs
 
 returns : tie.Need-returns Inv-loop μ-loop
-returns c =
-    let t = c .before .before in
-    sym (t .before .loop .inv ∙ has-drop _ _ _ (t .loop-test .taken) ∙ rw (eq-eqb _ _ (c .if1 .taken)))
+returns c = has-hit _ _ (c .before .before .before .before .args .from) _ (c .before .before .before .loop .inv) (c .before .before .loop-test .taken) (c .if1 .taken)
 
 add-k : tie.Need-add-k Inv-loop μ-loop
 add-k c = search needs
@@ -36,13 +33,10 @@ loop-less : tie.Need-loop-less Inv-loop μ-loop
 loop-less c = search needs
 
 loop-again : tie.Need-loop-again Inv-loop μ-loop
-loop-again c =
-    let t = c .before .before in
-    t .before .loop .inv ∙ has-drop _ _ _ (t .loop-test .taken) ∙ rw (ne-eqb _ _ (c .if1 .left))
+loop-again c = has-miss _ _ (c .before .before .before .before .args .from) _ (c .before .before .before .loop .inv) (c .before .before .loop-test .taken) (c .if1 .left)
 
 returns-2 : tie.Need-returns-2 Inv-loop μ-loop
-unfolding has
-returns-2 c = sym (c .before .loop .inv ∙ ap (has _) (drop-of-length-le _ (c .loop-test .left)))
+returns-2 c = has-over _ _ (c .before .before .args .from) _ (c .before .loop .inv) (c .loop-test .left)
 
 pub stands-spec : {M : Type 1} → statement M
 stands-spec =

@@ -1,0 +1,76 @@
+// A step of phase one, recorded: the chosen row is added to the rows below it with a nonzero in its column, binary rows first, then octet rows.
+ghost use mathlib.Core.Path.{_≡_};
+ghost use Prim.Native.Nat.{_+_, _*_, _≤_, _<_};
+ghost use lib.ListN.{length};
+ghost use Rattle.phases.specs.System.{range};
+ghost use Rattle.phases.specs.One.{clears};
+ghost use Rattle.grid.specs.Grid.{Under, Rows};
+ghost use Rattle.tally.specs.Book.{book, Fair};
+ghost use Rattle.clearing.specs.Clear.{binary-at, octet-at, multiple, Binary, Listed};
+use oplist::Op;
+use tally::Tally;
+
+// The operation that adds c times row x to row y.
+fn multiple_of(c: u8, y: usize, x: usize) -> Op
+    ensures { λ r. ⌜ r ≡ multiple c y x ⌝ }
+{
+    if c == 1 {
+        return Op::AddAssign(y, x);
+    }
+    Op::FMA(y, x, c)
+}
+
+// Row x is added to each of the rows ys with a one in column q, from the top.
+pub fn clear_rows(
+    bits: &[u8],
+    l: usize,
+    q: usize,
+    x: usize,
+    ys: &[usize],
+    list: &mut [u64],
+    t: Tally,
+) -> Tally
+    requires { ⌜ (Rows l (length (now bits)) (now ys)) × (Binary l (now bits) q (now ys)) × (Under 65536 (now ys)) × (q < l) × (x < 65536) ⌝ }
+    requires { ⌜ Fair (book (now list) t) ⌝ }
+    ensures { λ r. ⌜ Listed (book (now (list .entry)) t) (clears (binary-at l (now (bits .entry)) q) x (now (ys .entry))) (book (now (list .exit)) r) ⌝ }
+{
+    let mut r = t;
+    let mut k = 0;
+    while k < ys.len() {
+        let y = ys[k];
+        if grid::has(bits, l, y, q) {
+            r = tally::record(list, r, Op::AddAssign(y, x));
+        }
+        k += 1;
+    }
+    r
+}
+
+// A multiple of row x is added to each of the h octet rows, row s + j being octet row j, with a nonzero in column q.
+pub fn clear_octets(
+    octs: &[u8],
+    l: usize,
+    s: usize,
+    h: usize,
+    q: usize,
+    x: usize,
+    list: &mut [u64],
+    t: Tally,
+) -> Tally
+    requires { ⌜ (h * l ≤ length (now octs)) × (s + h ≤ 65536) × (q < l) × (x < 65536) ⌝ }
+    requires { ⌜ Fair (book (now list) t) ⌝ }
+    ensures { λ r. ⌜ Listed (book (now (list .entry)) t) (clears (octet-at l s (now (octs .entry)) q) x (range s h)) (book (now (list .exit)) r) ⌝ }
+{
+    let mut r = t;
+    let mut j = 0;
+    while j < h {
+        let k = j * l + q;
+        let c = octs[k];
+        if c != 0 {
+            let op = multiple_of(c, s + j, x);
+            r = tally::record(list, r, op);
+        }
+        j += 1;
+    }
+    r
+}

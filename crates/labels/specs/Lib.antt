@@ -1,0 +1,4 @@
+pub mod Labs
+pub mod Facts
+pub mod Marking
+pub mod Noted

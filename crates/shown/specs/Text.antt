@@ -1,0 +1,107 @@
+-- A stored list as text: its shape, a line for each operation, and its order or the lack of one; or a refusal by its number. Bytes are ASCII.
+--   decimal        a number below ten million in decimal digits, with no zero in front
+--   opText         the line of an operation: its kind, dest, then src and scalar where it has them
+--   orderText      the line of an order, or of none
+--   listText       the text of a list
+--   refusedText    the text of a refusal
+--   mostBytes      the most bytes of a form that is shown
+--   answerText     the text of what reading a form answers
+-- Assumes nothing.
+use Prim.Native.Nat.{ℕ, _+_, _/_, _%_}
+use mathlib.Core.Bool.{Bool, true, false}
+use mathlib.Core.List.{List, [], _∷_, _++_}
+use lib.Dec.{leb}
+use lib.ListN.{length}
+use Rattle.oplist.specs.declared.Op.{Op}
+use Rattle.oplist.specs.declared.Op.the-variants.{AddAssign, MulAssign, FMA}
+use Rattle.oplist.specs.Listed.{opsOf}
+use Rattle.stored.specs.declared.Reading.{Reading}
+use Rattle.stored.specs.declared.Reading.the-variants.{Kept, BadShape, NoRoom, BadList, BadForm}
+use Rattle.stored.specs.Form.{wordsIn, orderIn}
+use Rattle.stored.specs.Answers.{readNumber}
+
+abbrev pub rowsWord : List ℕ
+rowsWord = 114 ∷ 111 ∷ 119 ∷ 115 ∷ 32 ∷ []
+
+abbrev pub columnsWord : List ℕ
+columnsWord = 32 ∷ 99 ∷ 111 ∷ 108 ∷ 117 ∷ 109 ∷ 110 ∷ 115 ∷ 32 ∷ []
+
+abbrev pub operationsWord : List ℕ
+operationsWord = 32 ∷ 111 ∷ 112 ∷ 101 ∷ 114 ∷ 97 ∷ 116 ∷ 105 ∷ 111 ∷ 110 ∷ 115 ∷ 32 ∷ []
+
+abbrev pub addWord : List ℕ
+addWord = 97 ∷ 100 ∷ 100 ∷ 32 ∷ []
+
+abbrev pub mulWord : List ℕ
+mulWord = 109 ∷ 117 ∷ 108 ∷ 32 ∷ []
+
+abbrev pub fmaWord : List ℕ
+fmaWord = 102 ∷ 109 ∷ 97 ∷ 32 ∷ []
+
+abbrev pub orderWord : List ℕ
+orderWord = 111 ∷ 114 ∷ 100 ∷ 101 ∷ 114 ∷ []
+
+abbrev pub noneLine : List ℕ
+noneLine = 111 ∷ 114 ∷ 100 ∷ 101 ∷ 114 ∷ 32 ∷ 110 ∷ 111 ∷ 110 ∷ 101 ∷ 10 ∷ []
+
+abbrev pub refusedWord : List ℕ
+refusedWord = 114 ∷ 101 ∷ 102 ∷ 117 ∷ 115 ∷ 101 ∷ 100 ∷ 32 ∷ []
+
+abbrev pub space : List ℕ
+space = 32 ∷ []
+
+abbrev pub newline : List ℕ
+newline = 10 ∷ []
+
+abbrev pub pickText : Bool → List ℕ → List ℕ → List ℕ
+pickText true a b = a
+pickText false a b = b
+
+-- the digit at the power p of ten, where the number is so large
+abbrev pub digitAt : ℕ → ℕ → List ℕ
+digitAt p x = pickText (leb p x) ((48 + x / p % 10) ∷ []) []
+
+unfoldable pub decimal : ℕ → List ℕ
+decimal x =
+    digitAt 1000000 x ++ (digitAt 100000 x ++ (digitAt 10000 x ++ (digitAt 1000 x ++ (digitAt 100 x ++ (digitAt 10 x ++ ((48 + x % 10) ∷ []))))))
+
+-- words, then a number
+abbrev pub named : List ℕ → ℕ → List ℕ
+named word x = word ++ decimal x
+
+unfoldable pub opText : Op → List ℕ
+opText (AddAssign d s) = named addWord d ++ (named space s ++ newline)
+opText (MulAssign d x) = named mulWord d ++ (named space x ++ newline)
+opText (FMA d s x) = named fmaWord d ++ (named space s ++ (named space x ++ newline))
+
+unfoldable pub opsText : List Op → List ℕ
+opsText [] = []
+opsText (o ∷ os) = opText o ++ opsText os
+
+unfoldable pub entriesText : List ℕ → List ℕ
+entriesText [] = []
+entriesText (x ∷ xs) = named space x ++ entriesText xs
+
+unfoldable pub orderText : Bool → List ℕ → List ℕ
+orderText true order = orderWord ++ (entriesText order ++ newline)
+orderText false order = noneLine
+
+unfoldable pub shapeText : ℕ → ℕ → ℕ → List ℕ
+shapeText m l n = named rowsWord m ++ (named columnsWord l ++ (named operationsWord n ++ newline))
+
+unfoldable pub listText : ℕ → ℕ → List Op → Bool → List ℕ → List ℕ
+listText m l os ordered order = shapeText m l (length os) ++ (opsText os ++ orderText ordered order)
+
+unfoldable pub refusedText : ℕ → List ℕ
+refusedText number = named refusedWord number ++ newline
+
+-- what is read from the form b, or the refusal
+abbrev pub answerText : Reading → List ℕ → List ℕ
+answerText (Kept m l n ordered) b = listText m l (opsOf (wordsIn b)) ordered (orderIn b)
+answerText BadShape b = refusedText (readNumber BadShape)
+answerText NoRoom b = refusedText (readNumber NoRoom)
+answerText BadList b = refusedText (readNumber BadList)
+answerText BadForm b = refusedText (readNumber BadForm)
+
+abbrev pub mostBytes : ℕ
+mostBytes = 65536

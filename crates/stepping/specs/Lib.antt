@@ -1,0 +1,5 @@
+pub mod Parts
+pub mod Due
+pub mod Lengths
+pub mod Stands
+pub mod Turns
