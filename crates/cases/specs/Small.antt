@@ -1,6 +1,7 @@
 -- Small systems with K = 10 and 27 rows, which can be checked by hand.
 --   Q          rows 0..6 have their one in columns 0..6, rows 17..26 in columns 7..16, octet row j in column 17 + j
 --   block      ones in columns 1..17 in turn, octet row 0 a one in column 0, octet row j in column 17 + j: after 16 steps no row has a one in V
+--   stored     the bytes of a stored list with one operation, MulAssign 7 by 142
 --   Small, small   what each of them gets
 -- Assumes nothing.
 use mathlib.Core.Path.{_≡_, refl, ap}
@@ -14,6 +15,15 @@ use Rattle.loops.specs.Way.{forWay}
 use Rattle.octet.specs.Octet.{add, times, product, rest, mul, squares, inverse}
 use Rattle.oplist.specs.Count.{adds, muls}
 use Rattle.oplist.specs.declared.Op.the-variants.{AddAssign, MulAssign, FMA}
+use Rattle.oplist.specs.Check.{shapeFine, opFine, listFine, orderFine}
+use Rattle.oplist.specs.Word.{packed, meaning}
+use Rattle.params.specs.Params.{paramsOf}
+use Rattle.params.specs.Answers.{at-zero}
+use Rattle.params.specs.declared.Parameters.the-variants.{BadCount}
+use Rattle.stored.specs.Bytes.{padded}
+use Rattle.stored.specs.Form.{formOf, opsBytes, wordsAt, unusedAt, unusedFine, formFine}
+use Rattle.stored.specs.Answers.{judged, judgedBy, readOf, got}
+use Rattle.stored.specs.declared.Reading.the-variants.{Kept}
 use Rattle.phases.specs.System.{Shape, range, combined}
 use Rattle.phases.specs.One.{phase-one}
 use Rattle.phases.specs.Run.{Run, solved, no-pivot, singular, defined, answer, Answer, Solved, ListFull, NoPivot, Singular, no-counts}
@@ -56,6 +66,9 @@ block = flat (range 1 7) ++ zeros ++ flat (range 8 10)
 abbrev pub block-octets : List ℕ
 block-octets = flat (0 ∷ range 18 9)
 
+abbrev pub stored : List ℕ
+stored = 0 ∷ 0 ∷ 0 ∷ 14 ∷ 1 ∷ 0 ∷ 27 ∷ 0 ∷ 27 ∷ 0 ∷ 0 ∷ 0 ∷ 1 ∷ 2 ∷ 7 ∷ 0 ∷ 142 ∷ 0 ∷ []
+
 -- what each system gets; with no room, what was recorded does not fit
 pub record Small : Type 0 where
   pub empty-list : solve 1000 false Q Q-octets ≡ Solved [] usual no-counts no-counts
@@ -68,7 +81,11 @@ pub record Small : Type 0 where
   pub no-room-scaling : solve 0 false Q (with 0 17 2 Q-octets) ≡ ListFull
   pub no-room-addition : solve 0 false (with 0 17 1 Q) Q-octets ≡ ListFull
   pub no-room-fma : solve 0 false Q (with 0 0 3 Q-octets) ≡ ListFull
+  pub no-count : paramsOf 0 ≡ BadCount
+  pub too-few-rows : shapeFine 26 27 0 ≡ false
   pub octet-facts : (mul 2 128 ≡ 29) × (mul 3 3 ≡ 5) × (inverse 2 ≡ 142)
+  pub stored-form : formOf 27 27 (MulAssign 7 142 ∷ []) false [] ≡ stored
+  pub stored-read : readOf stored (0 ∷ []) [] ≡ got (Kept 27 27 1 false) (packed (MulAssign 7 142) ∷ []) []
   pub block-refused : solve 1000 false block block-octets ≡ NoPivot
   pub block-steps : length (phase-one (combined ten block block-octets) ten .steps) ≡ 16
   pub block-wide : solve 1000 true block block-octets ≡ Solved [] (7 ∷ range 0 7 ++ range 17 10 ++ range 8 9) no-counts no-counts
@@ -118,6 +135,18 @@ block-goes-on : solve 1000 true block block-octets ≡ Solved [] (7 ∷ range 0 
 unfolding add times product rest mul squares inverse forTo up forWay adds muls
 block-goes-on = refl
 
+few-rows : shapeFine 26 27 0 ≡ false
+unfolding shapeFine
+few-rows = refl
+
+form-is : formOf 27 27 (MulAssign 7 142 ∷ []) false [] ≡ stored
+unfolding formOf opsBytes
+form-is = refl
+
+read-is : readOf stored (0 ∷ []) [] ≡ got (Kept 27 27 1 false) (packed (MulAssign 7 142) ∷ []) []
+unfolding readOf judged judgedBy formFine unusedFine unusedAt wordsAt padded shapeFine listFine orderFine opFine packed meaning
+read-is = refl
+
 pub small : Small
 unfolding adds muls
 small = record {
@@ -131,7 +160,11 @@ small = record {
   no-room-scaling = ap (answer 0) run-scaling;
   no-room-addition = ap (answer 0) run-addition;
   no-room-fma = ap (answer 0) run-fma;
+  no-count = at-zero 0 refl;
+  too-few-rows = few-rows;
   octet-facts = facts;
+  stored-form = form-is;
+  stored-read = read-is;
   block-refused = ap (answer 1000) run-block;
   block-steps = block-takes;
   block-wide = block-goes-on;
