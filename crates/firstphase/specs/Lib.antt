@@ -1,0 +1,4 @@
+pub mod Clears
+pub mod Ended
+pub mod Begins
+pub mod Same
