@@ -1,0 +1,17 @@
+pub mod Answers
+pub mod Rooms
+pub mod Over
+pub mod Call
+pub mod Tests
+pub mod Scalars
+pub mod Ran
+pub mod Told
+pub mod Settle
+pub mod Journal
+pub mod After
+pub mod Then
+pub mod Ends
+pub mod Stops
+pub mod Begins
+pub mod Checked
+pub mod Laws
