@@ -1,8 +1,16 @@
-// Shows forms of the most bytes that are taken and past them: how long the text is, and its first and last bytes.
+// Shows forms of the most bytes that are taken and past them: how long the text is, and each of its lines after how often it stands in a row.
 use libc::STDOUT_FILENO;
+ghost use Prim.Native.Nat.{_≤_, _<_};
+ghost use lib.ListN.{length};
 
 fn put(text: &[u8]) {
     io::write_all(STDOUT_FILENO, text);
+}
+
+// A number and what it counts.
+fn put_count(n: usize, text: &[u8]) {
+    io::print_decimal(STDOUT_FILENO, n as u64);
+    put(text);
 }
 
 // Byte i of the form of 16,380 operations, all alike, with no order: 65,534 bytes.
@@ -28,26 +36,74 @@ fn fill_long(form: &mut [u8]) {
     }
 }
 
+// Where the line that begins at a place ends, after its newline.
+fn line_end(text: &[u8], from: usize) -> usize
+    requires { ⌜ from < length (now text) ⌝ }
+    ensures { λ r. ⌜ (from < r) × (r ≤ length (now (text .entry))) ⌝ }
+{
+    let mut k = from;
+    while k < text.len() {
+        if text[k] == b'\n' {
+            return k + 1;
+        }
+        k += 1;
+    }
+    k
+}
+
+fn same(a: &[u8], b: &[u8]) -> bool {
+    if a.len() != b.len() {
+        return false;
+    }
+    let mut k = 0;
+    while k < a.len() {
+        if a[k] != b[k] {
+            return false;
+        }
+        k += 1;
+    }
+    true
+}
+
+// Each line of a text, after how often it stands in a row.
+fn put_runs(text: &[u8]) {
+    if text.len() == 0 {
+        return;
+    }
+    let mut from = 0;
+    let mut at = 0;
+    let mut times = 0;
+    while at < text.len() {
+        let first = line_end(text, from);
+        let end = line_end(text, at);
+        if same(&text[from..first], &text[at..end]) {
+            times += 1;
+        } else {
+            put_count(times, b" ");
+            put(&text[from..first]);
+            from = at;
+            times = 1;
+        }
+        at = end;
+    }
+    let first = line_end(text, from);
+    put_count(times, b" ");
+    put(&text[from..first]);
+}
+
 fn show_once(form: &[u8]) {
     let mut list = [0u64; 16384];
     let mut order = [0usize; 256];
     let mut out = [0u8; 270000];
     let k = shown::show(form, &mut list, &mut order, &mut out);
-    io::print_decimal(STDOUT_FILENO, wide(k));
-    put(b" bytes\n");
-    put_ends(&out, k);
+    put_count(k, b" bytes\n");
+    put_front(&out, k);
 }
 
-// The first and the last bytes of a text.
-fn put_ends(text: &[u8], n: usize) {
+// The first n bytes of a text.
+fn put_front(text: &[u8], n: usize) {
     if n <= text.len() {
-        if 60 <= n {
-            let last = n - 19;
-            put(&text[0..42]);
-            put(&text[last..n]);
-            return;
-        }
-        put(&text[0..n]);
+        put_runs(&text[0..n]);
     }
 }
 
@@ -61,10 +117,6 @@ fn show_long() {
     let mut form = [0u8; 65534];
     fill_long(&mut form);
     show_once(&form);
-}
-
-fn wide(x: usize) -> u64 {
-    x as u64
 }
 
 fn main() {

@@ -44,15 +44,15 @@ use Rattle.phases.specs.Matrix.{length-range}
 use Rattle.phases.specs.Means.{Nulled}
 use Rattle.phases.specs.Answers.{solved-reduces, singular-nulled}
 use Rattle.phases.specs.Answers as Ends
-use Rattle.solver.specs.declared.Shape.{Shape}
-use Rattle.solver.specs.declared.Answer.{Answer}
-use Rattle.solver.specs.declared.Answer.the-variants.{BadCount, BadShape, BadEntry, NoRoom}
-use Rattle.solver.specs.Answers.{numberOf}
-use Rattle.solver.specs.Over.{over, take-over, at-over}
-use Rattle.solver.specs.Call.{Octets, octetsIn, rowsIn, Working, Buffers, buffers, Outcome, outcome, shaped, entered, roomy, roomyFor, answerOf, ended, shapeOf, told, checked, counted, callOf}
-use Rattle.solver.specs.Ran.{asShape, Posed, Roomed, Slabbed, Tabled, opsIn}
-use Rattle.solver.specs.Told.{posed-fit, opsIn-told, told-says}
-use Rattle.solver.specs.Checked.{Shaped, shaped-facts, tabled-given, tabled-none, posed-is, roomed-is, slabbed-is, at-run, at-table}
+use Rattle.call.specs.declared.Shape.{Shape}
+use Rattle.call.specs.declared.Answer.{Answer}
+use Rattle.call.specs.declared.Answer.the-variants.{BadCount, BadShape, BadEntry, NoRoom}
+use Rattle.call.specs.Answers.{numberOf}
+use Rattle.call.specs.Over.{over, take-over, at-over}
+use Rattle.call.specs.Call.{Octets, octetsIn, rowsIn, Working, Buffers, buffers, Outcome, outcome, shaped, entered, roomy, roomyFor, answerOf, ended, shapeOf, told, checked, counted, callOf}
+use Rattle.running.specs.Ran.{asShape, Posed, Roomed, Slabbed, Tabled, opsIn}
+use Rattle.running.specs.Told.{posed-fit, opsIn-told, told-says}
+use Rattle.tested.specs.Checked.{Shaped, shaped-facts, tabled-given, tabled-none, posed-is, roomed-is, slabbed-is, at-run, at-table}
 
 pub call-one : (k m t : ℕ) (bits : List ℕ) (o : Octets) (b : Buffers) (x y : Outcome) → x ≡ callOf k m t bits o b → y ≡ callOf k m t bits o b → x ≡ y
 call-one k m t bits o b x y e f = e ∙ sym f

@@ -1,12 +1,12 @@
 -- `solve` meets its contract. Assumes nothing.
 use Prim.Native.Nat.{zero-le}
 use mathlib.Core.Path.{sym, _∙_}
-use Rattle.solver.specs.Checked.{tabled-given, tabled-none, at-count, at-table}
+use Rattle.tested.specs.Checked.{tabled-given, tabled-none, at-count, at-table}
 use Rattle.solver.proofs.solve.Statement.{statement}
 use Rattle.solver.proofs.solve.Tie as tie
 use Rattle.solver.proofs.solve.Reads as reads
 use Rattle.solver.proofs.solve.Lts as lts
-use Rattle.solver.proofs.call.Reads as call-reads
+use Rattle.tested.proofs.call.Reads as call-reads
 use Rattle.params.proofs.params.Reads as params-reads
 
 params-requires : tie.Need-params-requires

@@ -1,0 +1,73 @@
+-- The answers of a call: their numbers, and what the receiver shows for each.
+--   numberOf        the number of an answer
+--   shownOf         what the receiver shows
+--   rank-exactly    it shows "short of rank" exactly for 6 and 7
+--   number-one, shown-one   two results that meet the statement are equal
+-- Assumes nothing.
+use mathlib.Core.Path.{_≡_, refl, sym, _∙_}
+use mathlib.Core.Logic.{_⊎_, inl, inr, _↔_}
+use Prim.Native.Nat.{ℕ}
+use native.Mathlib.Omega.{arith}
+use Rattle.call.specs.declared.Answer.{Answer}
+use Rattle.call.specs.declared.Answer.the-variants.{Solved, BadCount, BadShape, BadEntry, NoRoom, ListFull, NoPivot, Singular}
+use Rattle.call.specs.declared.Display.{Display}
+use Rattle.call.specs.declared.Display.the-variants.{Solved as AsSolved, BadCount as AsBadCount, BadShape as AsBadShape, BadEntry as AsBadEntry, NoRoom as AsNoRoom, ListFull as AsListFull, ShortOfRank}
+
+abbrev pub numberOf : Answer → ℕ
+numberOf (Solved r) = 0
+numberOf BadCount = 1
+numberOf BadShape = 2
+numberOf BadEntry = 3
+numberOf NoRoom = 4
+numberOf ListFull = 5
+numberOf NoPivot = 6
+numberOf Singular = 7
+
+-- NoPivot and Singular are a block short of rank; any other answer shows its name
+abbrev pub shownOf : Answer → Display
+shownOf (Solved r) = AsSolved
+shownOf BadCount = AsBadCount
+shownOf BadShape = AsBadShape
+shownOf BadEntry = AsBadEntry
+shownOf NoRoom = AsNoRoom
+shownOf ListFull = AsListFull
+shownOf NoPivot = ShortOfRank
+shownOf Singular = ShortOfRank
+
+pub rank-exactly : (a : Answer) → (shownOf a ≡ ShortOfRank) ↔ ((numberOf a ≡ 6) ⊎ (numberOf a ≡ 7))
+rank-exactly a = (forth a, back a)
+  where
+    never : (s : Display) (P : Type 0) → s ≡ ShortOfRank → s ≡ AsSolved → P
+    never s P e f = let z : _≡_ {A = ℕ} 0 1 = cc in absurd (omega arith)
+
+    forth : (a : Answer) → shownOf a ≡ ShortOfRank → (numberOf a ≡ 6) ⊎ (numberOf a ≡ 7)
+    forth (Solved r) e = let z : _≡_ {A = ℕ} 0 1 = cc in absurd (omega arith)
+    forth BadCount e = let z : _≡_ {A = ℕ} 0 1 = cc in absurd (omega arith)
+    forth BadShape e = let z : _≡_ {A = ℕ} 0 1 = cc in absurd (omega arith)
+    forth BadEntry e = let z : _≡_ {A = ℕ} 0 1 = cc in absurd (omega arith)
+    forth NoRoom e = let z : _≡_ {A = ℕ} 0 1 = cc in absurd (omega arith)
+    forth ListFull e = let z : _≡_ {A = ℕ} 0 1 = cc in absurd (omega arith)
+    forth NoPivot e = inl refl
+    forth Singular e = inr refl
+
+    back : (a : Answer) → (numberOf a ≡ 6) ⊎ (numberOf a ≡ 7) → shownOf a ≡ ShortOfRank
+    back NoPivot e = refl
+    back Singular e = refl
+    back (Solved r) (inl e) = absurd (omega arith)
+    back (Solved r) (inr e) = absurd (omega arith)
+    back BadCount (inl e) = absurd (omega arith)
+    back BadCount (inr e) = absurd (omega arith)
+    back BadShape (inl e) = absurd (omega arith)
+    back BadShape (inr e) = absurd (omega arith)
+    back BadEntry (inl e) = absurd (omega arith)
+    back BadEntry (inr e) = absurd (omega arith)
+    back NoRoom (inl e) = absurd (omega arith)
+    back NoRoom (inr e) = absurd (omega arith)
+    back ListFull (inl e) = absurd (omega arith)
+    back ListFull (inr e) = absurd (omega arith)
+
+pub number-one : (a : Answer) (x y : ℕ) → x ≡ numberOf a → y ≡ numberOf a → x ≡ y
+number-one a x y e f = e ∙ sym f
+
+pub shown-one : (a : Answer) (x y : Display) → x ≡ shownOf a → y ≡ shownOf a → x ≡ y
+shown-one a x y e f = e ∙ sym f

@@ -1,0 +1,5 @@
+pub mod Answers
+pub mod Rooms
+pub mod Over
+pub mod Call
+pub mod Tests
