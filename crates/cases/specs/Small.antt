@@ -17,15 +17,16 @@ use Rattle.oplist.specs.Count.{adds, muls}
 use Rattle.oplist.specs.declared.Op.the-variants.{AddAssign, MulAssign, FMA}
 use Rattle.oplist.specs.Check.{shapeFine, opFine, listFine, orderFine}
 use Rattle.oplist.specs.Word.{packed, meaning}
-use Rattle.params.specs.Params.{paramsOf}
 use Rattle.params.specs.Answers.{at-zero}
-use Rattle.params.specs.declared.Parameters.the-variants.{BadCount}
+use Rattle.params.specs.Examples as params
 use Rattle.stored.specs.Bytes.{padded}
 use Rattle.stored.specs.Form.{formOf, opsBytes, wordsAt, unusedAt, unusedFine, formFine}
 use Rattle.stored.specs.Answers.{judged, judgedBy, readOf, got}
 use Rattle.stored.specs.declared.Reading.the-variants.{Kept}
 use Rattle.phases.specs.System.{Shape, range, combined}
 use Rattle.phases.specs.One.{phase-one}
+use Rattle.call.specs.declared.Answer.the-variants.{BadCount, BadShape}
+use Rattle.call.specs.Call.{Octets, Buffers, outcome, shaped, checked, callOf}
 use Rattle.phases.specs.Run.{Run, solved, no-pivot, singular, defined, answer, Answer, Solved, ListFull, NoPivot, Singular, no-counts}
 
 abbrev pub ten : Shape
@@ -69,7 +70,7 @@ block-octets = flat (0 ∷ range 18 9)
 abbrev pub stored : List ℕ
 stored = 0 ∷ 0 ∷ 0 ∷ 14 ∷ 1 ∷ 0 ∷ 27 ∷ 0 ∷ 27 ∷ 0 ∷ 0 ∷ 0 ∷ 1 ∷ 2 ∷ 7 ∷ 0 ∷ 142 ∷ 0 ∷ []
 
--- what each system gets; with no room, what was recorded does not fit
+-- what each system gets; with no room, what was recorded does not fit; a call with no symbols, or with too few rows, is refused and changes nothing
 pub record Small : Type 0 where
   pub empty-list : solve 1000 false Q Q-octets ≡ Solved [] usual no-counts no-counts
   pub one-scaling : solve 1000 false Q (with 0 17 2 Q-octets) ≡ Solved (MulAssign 7 142 ∷ []) usual no-counts (0 ∷ 1 ∷ 0 ∷ 0 ∷ 0 ∷ [])
@@ -81,8 +82,8 @@ pub record Small : Type 0 where
   pub no-room-scaling : solve 0 false Q (with 0 17 2 Q-octets) ≡ ListFull
   pub no-room-addition : solve 0 false (with 0 17 1 Q) Q-octets ≡ ListFull
   pub no-room-fma : solve 0 false Q (with 0 0 3 Q-octets) ≡ ListFull
-  pub no-count : paramsOf 0 ≡ BadCount
-  pub too-few-rows : shapeFine 26 27 0 ≡ false
+  pub no-count : (m t : ℕ) (bits : List ℕ) (o : Octets) (b : Buffers) → callOf 0 m t bits o b ≡ outcome BadCount b
+  pub too-few-rows : (t : ℕ) (bits : List ℕ) (o : Octets) (b : Buffers) → callOf 10 26 t bits o b ≡ outcome BadShape b
   pub octet-facts : (mul 2 128 ≡ 29) × (mul 3 3 ≡ 5) × (inverse 2 ≡ 142)
   pub stored-form : formOf 27 27 (MulAssign 7 142 ∷ []) false [] ≡ stored
   pub stored-read : readOf stored (0 ∷ []) [] ≡ got (Kept 27 27 1 false) (packed (MulAssign 7 142) ∷ []) []
@@ -135,9 +136,13 @@ block-goes-on : solve 1000 true block block-octets ≡ Solved [] (7 ∷ range 0 
 unfolding add times product rest mul squares inverse forTo up forWay adds muls
 block-goes-on = refl
 
-few-rows : shapeFine 26 27 0 ≡ false
-unfolding shapeFine
-few-rows = refl
+no-symbols : (m t : ℕ) (bits : List ℕ) (o : Octets) (b : Buffers) → callOf 0 m t bits o b ≡ outcome BadCount b
+unfolding callOf
+no-symbols m t bits o b = rw (at-zero 0 refl)
+
+few-rows : (t : ℕ) (bits : List ℕ) (o : Octets) (b : Buffers) → callOf 10 26 t bits o b ≡ outcome BadShape b
+unfolding callOf checked shaped
+few-rows t bits o b = rw params.ten
 
 form-is : formOf 27 27 (MulAssign 7 142 ∷ []) false [] ≡ stored
 unfolding formOf opsBytes
@@ -160,7 +165,7 @@ small = record {
   no-room-scaling = ap (answer 0) run-scaling;
   no-room-addition = ap (answer 0) run-addition;
   no-room-fma = ap (answer 0) run-fma;
-  no-count = at-zero 0 refl;
+  no-count = no-symbols;
   too-few-rows = few-rows;
   octet-facts = facts;
   stored-form = form-is;
