@@ -23,7 +23,7 @@ pub fn swap(d: &mut [usize], i: usize, j: usize)
 }
 
 // The place of the first x, or the length.
-pub fn place(e: &[usize], x: usize) -> usize
+fn place(e: &[usize], x: usize) -> usize
     ensures { λ r. ⌜ r ≡ firstAt (is x) (now (e .entry)) ⌝ }
 {
     let mut i = 0;

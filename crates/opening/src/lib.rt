@@ -20,7 +20,7 @@ pub struct Begun {
 }
 
 // The numbers from 0 on.
-pub fn numbers(s: &mut [usize])
+fn numbers(s: &mut [usize])
     ensures { λ _. ⌜ now (s .exit) ≡ range 0 (length (now (s .entry))) ⌝ }
 {
     let mut k = 0;
@@ -31,7 +31,7 @@ pub fn numbers(s: &mut [usize])
 }
 
 // The rows by place: the h octet rows, from row s on, stand last, each exchanged with one of the last h rows.
-pub fn first_rows(d: &mut [usize], s: usize, h: usize)
+fn first_rows(d: &mut [usize], s: usize, h: usize)
     requires { ⌜ s + h + h ≤ length (now d) ⌝ }
     ensures { λ _. ⌜ now (d .exit) ≡ rowsAtFirst (length (now (d .entry))) s h ⌝ }
 {
@@ -101,7 +101,7 @@ fn by_least(w: usize, labels: &mut [usize], least: &mut [usize])
 }
 
 // The labels before the first step, and the next label: e is the eligible rows and v the columns of V, which are those below its length; `least` is room.
-pub fn first_marks(
+fn first_marks(
     bits: &[u8],
     l: usize,
     e: &[usize],

@@ -300,7 +300,7 @@ fn pivot_step(
 }
 
 // Columns from place i on are brought to echelon form; the first row with a nonzero is a column's.
-pub fn forward(
+fn forward(
     work: &mut [u8],
     m: usize,
     l: usize,
@@ -376,7 +376,7 @@ fn clear_above(
 }
 
 // Each column from place i on is cleared above, the last one first.
-pub fn backward(
+fn backward(
     work: &[u8],
     m: usize,
     l: usize,
@@ -467,7 +467,7 @@ fn fill_combined(
 }
 
 // The working matrix: of every row its entries at the columns cols.
-pub fn fill(
+fn fill(
     work: &mut [u8],
     bits: &[u8],
     octs: &[u8],
@@ -501,7 +501,7 @@ fn apply_word(work: &mut [u8], m: usize, l: usize, i: usize, scratch: &mut [u8],
 }
 
 // The operations of a list's words, one after the other.
-pub fn apply_list(work: &mut [u8], m: usize, l: usize, i: usize, scratch: &mut [u8], list: &[u64])
+fn apply_list(work: &mut [u8], m: usize, l: usize, i: usize, scratch: &mut [u8], list: &[u64])
     requires { ⌜ Rooms m l i (now work) (now scratch) ⌝ }
     requires { ⌜ Each (Within m) (opsOf (now list)) ⌝ }
     ensures { λ _. ⌜ storeOf m l i (now (work .exit)) ≡ acts (opsOf (now (list .entry))) (storeOf m l i (now (work .entry))) ⌝ }
@@ -515,7 +515,7 @@ pub fn apply_list(work: &mut [u8], m: usize, l: usize, i: usize, scratch: &mut [
 }
 
 // The columns from place i on: to echelon form, and then cleared above.
-pub fn eliminate(
+fn eliminate(
     work: &mut [u8],
     m: usize,
     l: usize,
