@@ -1,0 +1,4 @@
+pub mod Text
+pub mod Digits
+pub mod Lined
+pub mod Cases
