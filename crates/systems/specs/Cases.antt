@@ -12,8 +12,8 @@
 --   read-one         two results that meet the statement are equal
 -- Assumes nothing.
 use Prim.Native.Nat.{ℕ, _+_, _-_, _≤_, _<_}
-use mathlib.Core.Path.{_≡_, refl, sym, ap, _∙_}
-use mathlib.Core.Bool.{Bool, true, false, cond}
+use mathlib.Core.Path.{_≡_, sym, ap, _∙_}
+use mathlib.Core.Bool.{true, false, cond}
 use mathlib.Core.List.{List, [], _∷_}
 use native.Mathlib.Omega.{arith}
 use lib.ListN.{length, take, drop}
@@ -26,7 +26,7 @@ use Rattle.systems.specs.declared.told.Lines.the-variants as lines
 use Rattle.systems.specs.declared.told.Read.{Read}
 use Rattle.systems.specs.declared.told.Read.the-variants.{Case, Malformed, End}
 use Rattle.systems.specs.Text.{endOf, linesIn, startsWith, lines-at, lines-over, line-long}
-use Rattle.systems.specs.Lined.{Buffers, buffers, Turned, turned, headOf, lineOf}
+use Rattle.systems.specs.Lined.{Buffers, buffers, turned, headOf, lineOf}
 
 -- "case "
 abbrev pub caseWord : List ℕ

@@ -2,3 +2,4 @@ pub mod Text
 pub mod Digits
 pub mod Lined
 pub mod Cases
+pub mod Example

@@ -1,7 +1,6 @@
 -- `rows::columns` meets its contract: an entry of the table, or none. Assumes nothing.
 use borrow.Author.Needs.{needs}
 use mathlib.Core.Path.{sym, ap, _∙_}
-use Rattle.params.specs.declared.Parameters.{Parameters}
 use Rattle.systems.specs.Lined.{columnsIn, columnsOf}
 use Rattle.systems.proofs.rows.columns.Statement.{statement}
 use Rattle.systems.proofs.rows.columns.Tie as tie

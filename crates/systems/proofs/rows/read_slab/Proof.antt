@@ -13,7 +13,6 @@ use Rattle.systems.proofs.rows.read_slab.Tie as tie
 returns : tie.Need-returns
 returns c =
     let a = c .before .before .before .args in
-    let h : length (a .slab .now) - 0 ≤ length (a .slab .now) = omega arith in
     placed-full _ 0 (length (a .digits .now) / 2) _ (a .slab .now) _ (omega arith)
 
 is-bytes-requires : tie.Need-is-bytes-requires

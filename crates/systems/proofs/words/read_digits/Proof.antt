@@ -1,8 +1,8 @@
 -- `words::read_digits` meets its contract: what is left says the same number. Assumes nothing.
 use borrow.Author.Needs.{needs}
 use native.Mathlib.Omega.{arith}
-use Prim.Native.Nat.{ℕ, _+_, _-_, _*_, _≤_, _<_}
-use mathlib.Core.Path.{_≡_, refl, sym, ap, _∙_}
+use Prim.Native.Nat.{_-_, _≤_, _<_}
+use mathlib.Core.Path.{_≡_, refl, sym, _∙_}
 use lib.ListN.{length, drop}
 use Rattle.systems.specs.Text.{digitsOf, digits-space, digits-low, digits-high, digits-large, digits-next, digits-over}
 use Rattle.systems.proofs.words.read_digits.Statement.{statement}
