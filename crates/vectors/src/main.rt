@@ -1,5 +1,6 @@
-// Solves each system of the input and writes its answer.
+// Solves each system of the input and writes its answer. The input is taken in parts of whole lines; a case that goes on behind a part is kept for the next.
 ghost use Prim.Native.Nat.{_≤_};
+ghost use lib.ListN.{length};
 use call::Answer;
 use call::Report;
 use libc::STDIN_FILENO;
@@ -10,8 +11,14 @@ use systems::Place;
 use systems::Read;
 use systems::System;
 
-// The longest input, in bytes.
-const MOST_TEXT: usize = 1048576;
+// How much of the input is held at once, in bytes: more than any case within the bounds, and any line of an answer.
+const HELD: usize = 2097152;
+
+// More parts than an input has.
+const MOST_PARTS: usize = 1048576;
+
+// More lines than an input has.
+const MOST_LINES: usize = 1099511627776;
 
 // Room for the longest list that there is within the bounds.
 const LIST_ROOM: usize = 92331;
@@ -288,47 +295,184 @@ fn put_name(text: &[u8], p: Place) {
     put(b"\n");
 }
 
-// The first case from a place on, and where the text goes on.
-fn one(text: &[u8], at: usize, bits: &mut [u8], octets: &mut [u8], slab: &mut [u8]) -> usize {
+// Where the text goes on; whether from there on more of the input has to be there first.
+struct Next {
+    place: usize,
+    waits: bool,
+}
+
+// The number of the input's line that a place of a part is in, `lines` being those before the part.
+fn line_at(text: &[u8], place: usize, lines: usize) -> usize {
+    at_most(lines, MOST_LINES) + at_most(systems::line_number(text, place), HELD)
+}
+
+// A line that has no place in its case; the end of a part that is not the last may stand within a case.
+fn refuse(text: &[u8], p: Place, lines: usize, last: bool) -> Next {
+    if !last {
+        if text.len() <= p.next {
+            return Next {
+                place: p.from,
+                waits: true,
+            };
+        }
+    }
+    put_name(text, p);
+    put_line(b"refused line ", line_at(text, p.next, lines));
+    put(b"end\n");
+    Next {
+        place: p.next,
+        waits: false,
+    }
+}
+
+// The first case from a place on.
+fn one(
+    text: &[u8],
+    at: usize,
+    lines: usize,
+    last: bool,
+    bits: &mut [u8],
+    octets: &mut [u8],
+    slab: &mut [u8],
+) -> Next {
     match systems::read(text, at, bits, octets, slab) {
         Read::Case(s, p) => {
             put_name(text, p);
             solve_case(s, &bits[..], &octets[..], slab);
             put(b"end\n");
-            p.next
+            Next {
+                place: p.next,
+                waits: false,
+            }
         }
-        Read::Malformed(p) => {
-            put_name(text, p);
-            put_line(b"refused line ", systems::line_number(text, p.next));
-            put(b"end\n");
-            p.next
-        }
-        Read::End => text.len(),
+        Read::Malformed(p) => refuse(text, p, lines, last),
+        Read::End => Next {
+            place: text.len(),
+            waits: false,
+        },
     }
 }
 
-// Every case.
-fn all(text: &[u8]) {
+// Every case of a part; where the rest begins that has to wait.
+fn all(text: &[u8], lines: usize, last: bool) -> usize
+    ensures { λ r. ⌜ r ≤ length (now (text .entry)) ⌝ }
+{
     let mut bits = [0u8; 66000];
     let mut octets = [0u8; 8192];
     let mut slab = [0u8; 16384];
     let mut at = 0;
     while at < text.len() {
-        let next = one(text, at, &mut bits, &mut octets, &mut slab);
-        if next <= at {
+        let next = one(text, at, lines, last, &mut bits, &mut octets, &mut slab);
+        if next.waits {
+            return at_most(next.place, text.len());
+        }
+        if next.place <= at {
+            return text.len();
+        }
+        at = next.place;
+    }
+    text.len()
+}
+
+// How many bytes the whole lines of a text take.
+fn whole_lines(text: &[u8]) -> usize
+    ensures { λ r. ⌜ r ≤ length (now (text .entry)) ⌝ }
+{
+    let mut n = text.len();
+    while 0 < n {
+        if text[n - 1] == b'\n' {
+            return n;
+        }
+        n -= 1;
+    }
+    n
+}
+
+// The bytes from a place on, moved to the front.
+fn move_front(buffer: &mut [u8], from: usize) {
+    let mut i = from;
+    while i < buffer.len() {
+        buffer[i - from] = buffer[i];
+        i += 1;
+    }
+}
+
+// What is held of the input: how many bytes, how many lines were before them, and whether there is no more.
+struct Part {
+    held: usize,
+    lines: usize,
+    over: bool,
+}
+
+// How many bytes of a part are read: all of the last one, the whole lines of another.
+fn readable(text: &[u8], last: bool) -> usize
+    ensures { λ r. ⌜ r ≤ length (now (text .entry)) ⌝ }
+{
+    if last { text.len() } else { whole_lines(text) }
+}
+
+// The cases of a part; where the rest begins that has to wait.
+fn take_cases(text: &[u8], lines: usize, last: bool) -> usize {
+    let end = readable(text, last);
+    all(&text[0..end], lines, last)
+}
+
+// The cases of what is held; then the rest is held.
+fn take_part(buffer: &mut [u8], lines: usize, last: bool) -> Part {
+    let from = at_most(take_cases(&buffer[..], lines, last), buffer.len());
+    let held = buffer.len() - from;
+    if last {
+        return Part {
+            held: 0,
+            lines,
+            over: true,
+        };
+    }
+    if from == 0 {
+        put(b"refused: a case or a line is longer than 2097152 bytes\n");
+        return Part {
+            held: 0,
+            lines,
+            over: true,
+        };
+    }
+    let before = line_at(&buffer[..], from - 1, lines);
+    move_front(buffer, from);
+    Part {
+        held,
+        lines: before,
+        over: false,
+    }
+}
+
+// One part more of standard input, behind what is held.
+fn read_part(buffer: &mut [u8], held: usize, lines: usize) -> Part {
+    let n = at_most(held, buffer.len());
+    let got = io::read_full(STDIN_FILENO, &mut buffer[n..]);
+    let end = at_most(n + got, buffer.len());
+    let last = end < buffer.len();
+    take_part(&mut buffer[0..end], lines, last)
+}
+
+// Every part of standard input.
+fn read_all(buffer: &mut [u8]) {
+    let mut p = Part {
+        held: 0,
+        lines: 0,
+        over: false,
+    };
+    let mut n = 0;
+    while n < MOST_PARTS {
+        p = read_part(buffer, p.held, p.lines);
+        if p.over {
             return;
         }
-        at = next;
+        n += 1;
     }
 }
 
 // Every case of standard input.
 fn main() {
-    let mut input = [0u8; MOST_TEXT + 1];
-    let n = io::read_full(STDIN_FILENO, &mut input);
-    if MOST_TEXT < n {
-        put(b"refused input longer than 1048576 bytes\n");
-        return;
-    }
-    all(&input[..n]);
+    let mut buffer = [0u8; HELD];
+    read_all(&mut buffer);
 }

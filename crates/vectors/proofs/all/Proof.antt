@@ -1,4 +1,4 @@
--- `all` is safe and ends. Assumes nothing.
+-- `all` is safe and ends, and stays within the text. Assumes nothing.
 use Prim.Native.Nat.{_-_}
 use lib.ListN.{length}
 use mathlib.Core.Path.{_≡_, refl}
@@ -8,10 +8,10 @@ use Rattle.vectors.proofs.all.Statement.{statement}
 use Rattle.vectors.proofs.all.Tie as tie
 
 abbrev Inv-loop : tie.InvT-loop
-Inv-loop text bits₀ octets₀ slab₀ at₀ bits octets slab at = (length bits ≡ 66000) × (length octets ≡ 8192) × (length slab ≡ 16384)
+Inv-loop text lines last bits₀ octets₀ slab₀ at₀ bits octets slab at = (length bits ≡ 66000) × (length octets ≡ 8192) × (length slab ≡ 16384)
 
 abbrev μ-loop : tie.MeasureT-loop
-μ-loop text bits₀ octets₀ slab₀ at₀ bits octets slab at = length text - at
+μ-loop text lines last bits₀ octets₀ slab₀ at₀ bits octets slab at = length text - at
 
 loop-holds : tie.Need-loop-holds Inv-loop μ-loop
 loop-holds c = (refl, refl, refl)
@@ -28,8 +28,14 @@ slice-aggregate-one-3 c = search needs
 one-requires : tie.Need-one-requires Inv-loop μ-loop
 one-requires c κs = search needs
 
+at-most-requires : tie.Need-at-most-requires Inv-loop μ-loop
+at-most-requires c κs = search needs
+
 returns : tie.Need-returns Inv-loop μ-loop
 returns c = search needs
+
+returns-2 : tie.Need-returns-2 Inv-loop μ-loop
+returns-2 c = search needs
 
 loop-less : tie.Need-loop-less Inv-loop μ-loop
 loop-less c = search needs
@@ -37,8 +43,8 @@ loop-less c = search needs
 loop-again : tie.Need-loop-again Inv-loop μ-loop
 loop-again c = search needs
 
-returns-2 : tie.Need-returns-2 Inv-loop μ-loop
-returns-2 c = search needs
+returns-3 : tie.Need-returns-3 Inv-loop μ-loop
+returns-3 c = search needs
 
 pub all-spec : {M : Type 1} → statement M
 all-spec =
@@ -51,7 +57,9 @@ all-spec =
     slice-aggregate-one-2
     slice-aggregate-one-3
     one-requires
+    at-most-requires
     returns
+    returns-2
     loop-less
     loop-again
-    returns-2)
+    returns-3)
