@@ -23,12 +23,12 @@ use Rattle.slab.specs.Replay.{mostBytes}
 use Rattle.algebra.specs.Flat.{acts}
 use Rattle.phases.specs.System.{Shape, combined}
 use Rattle.phases.specs.Run.{Answer as Told, answer, defined}
-use Rattle.call.specs.declared.Counts.{Counts}
-use Rattle.call.specs.declared.Report.{Report}
-use Rattle.call.specs.declared.Rooms.{Rooms}
-use Rattle.call.specs.declared.Answer.{Answer}
-use Rattle.call.specs.declared.Answer.the-variants.{Solved, BadCount, BadShape, BadEntry, NoRoom, ListFull, NoPivot, Singular}
-use Rattle.call.specs.Rooms.{roomsOf}
+use Rattle.answers.specs.declared.Counts.{Counts}
+use Rattle.answers.specs.declared.Report.{Report}
+use Rattle.answers.specs.declared.Rooms.{Rooms}
+use Rattle.answers.specs.declared.Answer.{Answer}
+use Rattle.answers.specs.declared.Answer.the-variants.{Solved, BadCount, BadShape, BadEntry, NoRoom, ListFull, NoPivot, Singular}
+use Rattle.answers.specs.Rooms.{roomsOf}
 use Rattle.call.specs.Over.{over, blank}
 
 pub data Octets : Type 0 where

@@ -3,7 +3,7 @@ ghost use mathlib.Core.Path.{_≡_};
 ghost use Prim.Native.Nat.{_+_, _*_, _≤_};
 ghost use lib.ListN.{length};
 ghost use Rattle.call.specs.Call.{shaped, bitwise, entered, roomy};
-use crate::Rooms;
+use answers::Rooms;
 
 // Whether m, t, the list room and the lengths of the inputs fit a system of l columns and h octet rows.
 pub fn is_shaped(

@@ -25,7 +25,7 @@ use Rattle.stored.specs.Answers.{judged, judgedBy, readOf, got}
 use Rattle.stored.specs.declared.Reading.the-variants.{Kept}
 use Rattle.phases.specs.System.{Shape, range, combined}
 use Rattle.phases.specs.One.{phase-one}
-use Rattle.call.specs.declared.Answer.the-variants.{BadCount, BadShape}
+use Rattle.answers.specs.declared.Answer.the-variants.{BadCount, BadShape}
 use Rattle.call.specs.Call.{Octets, Buffers, outcome, shaped, checked, callOf}
 use Rattle.phases.specs.Run.{Run, solved, no-pivot, singular, defined, answer, Answer, Solved, ListFull, NoPivot, Singular, no-counts}
 

@@ -16,15 +16,15 @@
 //               in the place of given octet rows it is ignored, and all is as after the first call
 // A call that was otherwise is not counted, and has a line before that of its case: `wrong`, what was tried, and the answer.
 ghost use Prim.Native.Nat.{_≤_};
-use call::Answer;
-use call::Counts;
-use call::Need;
-use call::Report;
-use call::Rooms;
 use libc::STDIN_FILENO;
 use libc::STDOUT_FILENO;
 use params::Parameters;
 use params::Sizes;
+use solver::Answer;
+use solver::Counts;
+use solver::Need;
+use solver::Report;
+use solver::Rooms;
 use systems::Read;
 use systems::System;
 

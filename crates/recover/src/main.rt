@@ -1,11 +1,11 @@
 // Recovers a block: solves the first case of the input and writes its intermediate symbols, or why there are none.
 ghost use Prim.Native.Nat.{_≤_};
-use call::Answer;
-use call::Counts;
-use call::Display;
-use call::Report;
 use libc::STDIN_FILENO;
 use libc::STDOUT_FILENO;
+use solver::Answer;
+use solver::Counts;
+use solver::Display;
+use solver::Report;
 use systems::Place;
 use systems::Read;
 use systems::System;

@@ -33,8 +33,8 @@ use Rattle.firstphase.specs.Ended.{Ended}
 use Rattle.firstphase.specs.Same.{Whole}
 use Rattle.firstphase.specs.Begins.{Lent}
 use Rattle.call.specs.declared.Shape.{Shape}
-use Rattle.call.specs.declared.Answer.{Answer}
-use Rattle.call.specs.declared.Answer.the-variants.{ListFull, NoPivot}
+use Rattle.answers.specs.declared.Answer.{Answer}
+use Rattle.answers.specs.declared.Answer.the-variants.{ListFull, NoPivot}
 use Rattle.call.specs.Over.{over, blank, over-same, length-over}
 use Rattle.call.specs.Call.{Working, answerOf, told}
 use Rattle.running.specs.Ran.{asShape, Posed, Cut, Ran}

@@ -48,10 +48,10 @@ use Rattle.rest.specs.Again as Again
 use Rattle.rest.specs.Gather.{cell, Chosen, fourth}
 use Rattle.rest.specs.Gather as Gather
 use Rattle.rest.specs.Columns.{Ordering, Blank, placed, placed-is, by-column-take, length-by-column}
-use Rattle.call.specs.declared.Counts.{Counts}
+use Rattle.answers.specs.declared.Counts.{Counts}
 use Rattle.call.specs.declared.Shape.{Shape}
-use Rattle.call.specs.declared.Answer.{Answer}
-use Rattle.call.specs.declared.Answer.the-variants.{Solved, ListFull}
+use Rattle.answers.specs.declared.Answer.{Answer}
+use Rattle.answers.specs.declared.Answer.the-variants.{Solved, ListFull}
 use Rattle.call.specs.Over.{over, blank, after-over, length-over}
 use Rattle.call.specs.Call.{answerOf, told}
 use Rattle.running.specs.Ran.{asShape, Posed}

@@ -16,8 +16,8 @@ use Rattle.tally.specs.declared.Tally.{Tally}
 use Rattle.phases.specs.System.{Shape as Defined}
 use Rattle.phases.specs.Run.{Answer as Told}
 use Rattle.call.specs.declared.Shape.{Shape}
-use Rattle.call.specs.declared.Answer.{Answer}
-use Rattle.call.specs.declared.Answer.the-variants.{Solved, BadCount, BadShape, BadEntry, NoRoom, ListFull, NoPivot, Singular}
+use Rattle.answers.specs.declared.Answer.{Answer}
+use Rattle.answers.specs.declared.Answer.the-variants.{Solved, BadCount, BadShape, BadEntry, NoRoom, ListFull, NoPivot, Singular}
 use Rattle.call.specs.Over.{over, blank, keep}
 use Rattle.params.specs.declared.Sizes.{Sizes}
 use Rattle.oplist.specs.Check.{mostOps, listFine}

@@ -32,8 +32,8 @@ use Rattle.rest.specs.Columns.{placed, placed-is, length-by-column}
 use Rattle.rest.specs.Vector.{valued, valued-is}
 use Rattle.rest.specs.Vector as Vector
 use Rattle.call.specs.declared.Shape.{Shape}
-use Rattle.call.specs.declared.Answer.{Answer}
-use Rattle.call.specs.declared.Answer.the-variants.{ListFull, Singular}
+use Rattle.answers.specs.declared.Answer.{Answer}
+use Rattle.answers.specs.declared.Answer.the-variants.{ListFull, Singular}
 use Rattle.call.specs.Over.{over, blank}
 use Rattle.call.specs.Call.{answerOf, told}
 use Rattle.running.specs.Ran.{asShape, Posed, Ran}

@@ -45,9 +45,9 @@ use Rattle.phases.specs.Means.{Nulled}
 use Rattle.phases.specs.Answers.{solved-reduces, singular-nulled}
 use Rattle.phases.specs.Answers as Ends
 use Rattle.call.specs.declared.Shape.{Shape}
-use Rattle.call.specs.declared.Answer.{Answer}
-use Rattle.call.specs.declared.Answer.the-variants.{BadCount, BadShape, BadEntry, NoRoom}
-use Rattle.call.specs.Answers.{numberOf}
+use Rattle.answers.specs.declared.Answer.{Answer}
+use Rattle.answers.specs.declared.Answer.the-variants.{BadCount, BadShape, BadEntry, NoRoom}
+use Rattle.answers.specs.Answers.{numberOf}
 use Rattle.call.specs.Over.{over, take-over, at-over}
 use Rattle.call.specs.Call.{Octets, octetsIn, rowsIn, Working, Buffers, buffers, Outcome, outcome, shaped, entered, roomy, roomyFor, answerOf, ended, shapeOf, told, checked, counted, callOf}
 use Rattle.running.specs.Ran.{asShape, Posed, Roomed, Slabbed, Tabled, opsIn}

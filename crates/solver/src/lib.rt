@@ -1,60 +1,16 @@
 // The solver: a system in; its operation list, its order and the solved slab out.
 ghost use mathlib.Core.Path.{_≡_};
-ghost use Rattle.call.specs.Answers.{numberOf, shownOf};
-ghost use Rattle.call.specs.Rooms.{needOf};
 ghost use Rattle.call.specs.Call.{given, none, working, buffers, outcome, callOf};
-use call::Answer;
-use call::Display;
-use call::Need;
+pub use answers::Answer;
+pub use answers::Counts;
+pub use answers::Display;
+pub use answers::Need;
+pub use answers::Report;
+pub use answers::Rooms;
+pub use answers::needs;
+pub use answers::number;
+pub use answers::shown;
 use params::Parameters;
-
-// The number of an answer.
-pub fn number(a: Answer) -> usize
-    ensures { λ r. ⌜ r ≡ numberOf a ⌝ }
-{
-    match a {
-        Answer::Solved(_) => 0,
-        Answer::BadCount => 1,
-        Answer::BadShape => 2,
-        Answer::BadEntry => 3,
-        Answer::NoRoom => 4,
-        Answer::ListFull => 5,
-        Answer::NoPivot => 6,
-        Answer::Singular => 7,
-    }
-}
-
-// What the receiver shows: NoPivot and Singular are a block short of rank, any other answer shows its name.
-pub fn shown(a: Answer) -> Display
-    ensures { λ r. ⌜ r ≡ shownOf a ⌝ }
-{
-    match a {
-        Answer::Solved(_) => Display::Solved,
-        Answer::BadCount => Display::BadCount,
-        Answer::BadShape => Display::BadShape,
-        Answer::BadEntry => Display::BadEntry,
-        Answer::NoRoom => Display::NoRoom,
-        Answer::ListFull => Display::ListFull,
-        Answer::NoPivot => Display::ShortOfRank,
-        Answer::Singular => Display::ShortOfRank,
-    }
-}
-
-// The working room for m rows and l columns, for any number of octet rows; order and vector take l entries each.
-pub fn needs(m: usize, l: usize) -> Need
-    ensures { λ r. ⌜ r ≡ needOf m l ⌝ }
-{
-    if l < 1 {
-        return Need::BadShape;
-    }
-    if m < l {
-        return Need::BadShape;
-    }
-    if params::MOST_ROWS < m {
-        return Need::BadShape;
-    }
-    Need::Entries(call::rooms_for(m, l))
-}
 
 // Solves a system of m rows of t bytes for k source symbols: the binary matrix by rows, and the octet rows, which stand in rows S to S + H - 1.
 pub fn solve(

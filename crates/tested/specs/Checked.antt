@@ -24,9 +24,9 @@ use Rattle.oplist.specs.Check.{mostOps}
 use Rattle.oplist.specs.Facts.{and-left, and-right}
 use Rattle.slab.specs.Replay.{mostBytes}
 use Rattle.call.specs.declared.Shape.{Shape}
-use Rattle.call.specs.declared.Rooms.{Rooms}
-use Rattle.call.specs.declared.Answer.the-variants.{BadCount, BadShape, BadEntry, NoRoom}
-use Rattle.call.specs.Rooms.{roomsOf}
+use Rattle.answers.specs.declared.Rooms.{Rooms}
+use Rattle.answers.specs.declared.Answer.the-variants.{BadCount, BadShape, BadEntry, NoRoom}
+use Rattle.answers.specs.Rooms.{roomsOf}
 use Rattle.call.specs.Over.{blank, over-same}
 use Rattle.call.specs.Call.{Octets, octetsIn, rowsIn, Working, working, wiped, Buffers, buffers, outcome, shaped, entered, roomy, roomyFor, shapeOf, told, ended, checked, callOf}
 use Rattle.running.specs.Ran.{Posed, Roomed, Cut, Slabbed, Tabled}

@@ -21,7 +21,7 @@ use Rattle.slab.specs.Replay.{slabShaped, checked, Outcome as Replay, outcome a
 use Rattle.algebra.specs.Flat.{Bytes, acts}
 use Rattle.phases.specs.Run.{Answer as Told}
 use Rattle.call.specs.declared.Shape.{Shape}
-use Rattle.call.specs.declared.Answer.{Answer}
+use Rattle.answers.specs.declared.Answer.{Answer}
 use Rattle.call.specs.Over.{over, keep, over-same}
 use Rattle.call.specs.Call.{Working, wiped, Buffers, buffers, outcome, answerOf, left, ended, told}
 use Rattle.running.specs.Ran.{asShape, Posed, Ran, Worked, opsIn, Settling, Settled, Slabbed}

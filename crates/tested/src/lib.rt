@@ -3,7 +3,7 @@ ghost use mathlib.Core.Path.{_≡_};
 ghost use lib.ListN.{length};
 ghost use Rattle.call.specs.Call.{working, buffers, outcome, ended, told, checked};
 ghost use Rattle.running.specs.Ran.{asShape, Posed, Roomed, opsIn, Settling, Settled, Slabbed, Tabled};
-use call::Answer;
+use answers::Answer;
 use call::Shape;
 use params::Sizes;
 
@@ -123,7 +123,7 @@ pub fn call(
     if !call::checks::is_entered(bits, m, l, s, h) {
         return Answer::BadEntry;
     }
-    let need = call::rooms_for(m, l);
+    let need = answers::rooms_for(m, l);
     if !call::checks::has_room(
         l,
         need,

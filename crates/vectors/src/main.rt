@@ -1,12 +1,12 @@
 // Solves each system of the input and writes its answer. The input is taken in parts of whole lines; a case that goes on behind a part is kept for the next.
 ghost use Prim.Native.Nat.{_≤_};
 ghost use lib.ListN.{length};
-use call::Answer;
-use call::Report;
 use libc::STDIN_FILENO;
 use libc::STDOUT_FILENO;
 use oplist::Op;
 use oplist::Word;
+use solver::Answer;
+use solver::Report;
 use systems::Place;
 use systems::Read;
 use systems::System;

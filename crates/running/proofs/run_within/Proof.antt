@@ -1,7 +1,7 @@
 -- `run_within` meets its contract. Assumes nothing.
 use Prim.Native.Nat.{zero-le}
 use native.Mathlib.Omega.{arith}
-use Rattle.call.specs.Rooms.{small-product}
+use Rattle.answers.specs.Rooms.{small-product}
 use Rattle.running.specs.Cuts.{cut-is, put-same}
 use Rattle.running.proofs.run_within.Statement.{statement}
 use Rattle.running.proofs.run_within.Tie as tie

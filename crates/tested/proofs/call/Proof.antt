@@ -9,7 +9,7 @@ use Rattle.tested.proofs.call.Lts as lts
 use Rattle.call.proofs.checks.is_shaped.Reads as is-shaped-reads
 use Rattle.call.proofs.checks.is_entered.Reads as is-entered-reads
 use Rattle.call.proofs.checks.has_room.Reads as has-room-reads
-use Rattle.call.proofs.rooms_for.Reads as rooms-for-reads
+use Rattle.answers.proofs.rooms_for.Reads as rooms-for-reads
 use Rattle.tested.proofs.solve_tested.Reads as solve-tested-reads
 
 is-shaped-requires : tie.Need-is-shaped-requires

@@ -4,7 +4,7 @@ use Prim.Native.Nat.{_+_, _*_, _≤_}
 use lib.ListN.{length}
 use borrow.Author.Needs.{needs}
 use borrow.Author.Tests.{not-true, not-false}
-use Rattle.call.specs.Rooms.{small-product}
+use Rattle.answers.specs.Rooms.{small-product}
 use Rattle.call.specs.Tests.{front-fits, back-fits, entered-front, entered-back}
 use Rattle.call.proofs.checks.is_entered.Statement.{statement}
 use Rattle.call.proofs.checks.is_entered.Tie as tie

@@ -2,7 +2,7 @@
 use native.Mathlib.Omega.{arith}
 use borrow.Author.Tests.{le-leb, lt-leb, eq-eqb, ne-eqb}
 use Rattle.call.specs.Call.{shaped}
-use Rattle.call.specs.Rooms.{small-product}
+use Rattle.answers.specs.Rooms.{small-product}
 use Rattle.call.proofs.checks.is_shaped.Statement.{statement}
 use Rattle.call.proofs.checks.is_shaped.Tie as tie
 use Rattle.call.proofs.checks.is_shaped.Reads as reads

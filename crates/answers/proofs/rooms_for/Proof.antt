@@ -1,11 +1,11 @@
 -- `rooms_for` meets its contract. Assumes nothing.
 use native.Mathlib.Omega.{arith}
 use borrow.Author.Needs.{needs}
-use Rattle.call.specs.Rooms.{small-product}
-use Rattle.call.proofs.rooms_for.Statement.{statement}
-use Rattle.call.proofs.rooms_for.Tie as tie
-use Rattle.call.proofs.rooms_for.Reads as reads
-use Rattle.call.proofs.rooms_for.Lts as lts
+use Rattle.answers.specs.Rooms.{small-product}
+use Rattle.answers.proofs.rooms_for.Statement.{statement}
+use Rattle.answers.proofs.rooms_for.Tie as tie
+use Rattle.answers.proofs.rooms_for.Reads as reads
+use Rattle.answers.proofs.rooms_for.Lts as lts
 
 mul-t3 : tie.Need-mul-t3
 mul-t3 c = record { fits = omega (arith, small-product (c .args .m) (c .args .l) (omega arith) (omega arith)) }

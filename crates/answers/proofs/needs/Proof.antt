@@ -3,13 +3,13 @@ use mathlib.Core.Path.{ap}
 use native.Mathlib.Omega.{arith}
 use borrow.Author.Needs.{needs}
 use borrow.Author.Tests.{le-leb, lt-leb}
-use Rattle.call.specs.declared.Need.the-variants.{Entries}
-use Rattle.call.specs.Rooms.{needOf}
-use Rattle.solver.proofs.needs.Statement.{statement}
-use Rattle.solver.proofs.needs.Tie as tie
-use Rattle.solver.proofs.needs.Reads as reads
-use Rattle.solver.proofs.needs.Lts as lts
-use Rattle.call.proofs.rooms_for.Reads as rooms-for-reads
+use Rattle.answers.specs.declared.Need.the-variants.{Entries}
+use Rattle.answers.specs.Rooms.{needOf}
+use Rattle.answers.proofs.needs.Statement.{statement}
+use Rattle.answers.proofs.needs.Tie as tie
+use Rattle.answers.proofs.needs.Reads as reads
+use Rattle.answers.proofs.needs.Lts as lts
+use Rattle.answers.proofs.rooms_for.Reads as rooms-for-reads
 
 returns : tie.Need-returns
 unfolding needOf

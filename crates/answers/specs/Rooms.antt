@@ -12,9 +12,9 @@ use native.Mathlib.Nat.{mul-le-mul-left, mul-le-mul-right, mul-add}
 use native.Mathlib.Omega.{arith}
 use lib.Dec.{leb}
 use Rattle.params.specs.Params.{mostRows}
-use Rattle.call.specs.declared.Rooms.{Rooms}
-use Rattle.call.specs.declared.Need.{Need}
-use Rattle.call.specs.declared.Need.the-variants.{Entries, BadShape}
+use Rattle.answers.specs.declared.Rooms.{Rooms}
+use Rattle.answers.specs.declared.Need.{Need}
+use Rattle.answers.specs.declared.Need.the-variants.{Entries, BadShape}
 
 -- work and scratch hold bytes, the others numbers of 8 bytes; sizes has an entry for each label, which are fewer than 2 l + 2
 abbrev pub roomsOf : ℕ → ℕ → Rooms

@@ -8,10 +8,10 @@ use mathlib.Core.Path.{_≡_, refl, sym, _∙_}
 use mathlib.Core.Logic.{_⊎_, inl, inr, _↔_}
 use Prim.Native.Nat.{ℕ}
 use native.Mathlib.Omega.{arith}
-use Rattle.call.specs.declared.Answer.{Answer}
-use Rattle.call.specs.declared.Answer.the-variants.{Solved, BadCount, BadShape, BadEntry, NoRoom, ListFull, NoPivot, Singular}
-use Rattle.call.specs.declared.Display.{Display}
-use Rattle.call.specs.declared.Display.the-variants.{Solved as AsSolved, BadCount as AsBadCount, BadShape as AsBadShape, BadEntry as AsBadEntry, NoRoom as AsNoRoom, ListFull as AsListFull, ShortOfRank}
+use Rattle.answers.specs.declared.Answer.{Answer}
+use Rattle.answers.specs.declared.Answer.the-variants.{Solved, BadCount, BadShape, BadEntry, NoRoom, ListFull, NoPivot, Singular}
+use Rattle.answers.specs.declared.Display.{Display}
+use Rattle.answers.specs.declared.Display.the-variants.{Solved as AsSolved, BadCount as AsBadCount, BadShape as AsBadShape, BadEntry as AsBadEntry, NoRoom as AsNoRoom, ListFull as AsListFull, ShortOfRank}
 
 abbrev pub numberOf : Answer → ℕ
 numberOf (Solved r) = 0
