@@ -2,6 +2,7 @@
 --   Shaped, shaped-facts   the bounds and the lengths, each by itself
 --   tabled-given, tabled-none   sizes of the table, with their octet rows and without
 --   entering, posed-is, roomed-is, slabbed-is   what the parts of a call need
+--   passed                 all of these, from the answers of the tests
 --   at-shape, at-entry, at-room, at-run   the definition, test by test
 --   at-count, at-table     the definition, by the table
 --   rooms-tell             the test of the rooms
@@ -122,6 +123,20 @@ roomed-is z order vector w e =
       labels-room = leb-true _ _ (and-left (leb (z .l) (length (w .labels))) _ j);
       sizes-room = leb-true _ _ (and-right (leb (z .l) (length (w .labels))) _ j);
     }
+
+-- the three tests passed, as the code has their answers
+pub passed : {g : Sizes} {h m t : ℕ} {bits octets list slab order vector : List ℕ} {w : Working} {r : Rooms} {x y z : Bool} → Tabled g h
+    → x ≡ shaped (g .l) h m t (length list) (length bits) (length octets) (length slab) → x ≡ true → y ≡ entered (g .l) (g .s) h bits → y ≡ true
+    → r ≡ roomsOf m (g .l)
+    → z ≡ roomy (g .l) r (length order) (length vector) (length (w .work)) (length (w .scratch)) (length (w .columns)) (length (w .rows)) (length (w .ones))
+    (length (w .degrees)) (length (w .singles)) (length (w .labels)) (length (w .sizes)) → z ≡ true
+    → Posed (record { m = m; l = g .l; s = g .s; h = h; w = g .w }) bits octets
+    × (Roomed (record { m = m; l = g .l; s = g .s; h = h; w = g .w }) order vector w × Slabbed (record { m = m; l = g .l; s = g .s; h = h; w = g .w }) t list slab)
+passed {g} {h} {m} {t} {bits} {octets} {list} {slab} {order} {vector} {w} q a b c d e f i =
+    let s = shaped-facts _ _ _ _ _ _ _ _ (sym a ∙ b) in (
+      posed-is q bits octets s (sym c ∙ d),
+      (roomed-is (record { m = m; l = g .l; s = g .s; h = h; w = g .w }) order vector w (rw (sym e) (sym f ∙ i)), slabbed-is (g .s) (g .w) list slab s),
+    )
 
 module _ (g : Sizes) (h m t : ℕ) (bits octets : List ℕ) (b : Buffers) where
   abbrev shape : Bool

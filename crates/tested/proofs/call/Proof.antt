@@ -1,7 +1,7 @@
 -- `call` meets its contract. Assumes nothing.
 use mathlib.Core.Path.{sym, _∙_}
 use borrow.Author.Tests.{not-true, not-false}
-use Rattle.tested.specs.Checked.{few-octets, shaped-facts, entering, posed-is, roomed-is, slabbed-is, at-shape, at-entry, at-room, at-run, rooms-tell}
+use Rattle.tested.specs.Checked.{few-octets, shaped-facts, entering, passed, at-shape, at-entry, at-room, at-run, rooms-tell}
 use Rattle.tested.proofs.call.Statement.{statement}
 use Rattle.tested.proofs.call.Tie as tie
 use Rattle.tested.proofs.call.Reads as reads
@@ -35,8 +35,7 @@ returns-3 c = at-room _ _ _ _ _ _ _ (sym (c .before .before .before .before .bef
 
 solve-tested-requires : tie.Need-solve-tested-requires
 solve-tested-requires c κs =
-    let s = shaped-facts _ _ _ _ _ _ _ _ (sym (c .before .before .before .before .before .before .before .before .before .before .before .before .before .before .before .before .before .before .before .is-shaped .ensures) ∙ not-false _ (c .before .before .before .before .before .before .before .before .before .before .before .before .before .before .before .before .before .before .if1 .left)) in
-    (posed-is (c .before .before .before .before .before .before .before .before .before .before .before .before .before .before .before .before .before .before .before .before .before .before .before .before .before .before .before .before .before .before .before .before .before .before .before .pre) _ _ s (sym (c .before .before .before .before .before .before .before .before .before .before .before .before .before .before .before .before .before .is-entered .ensures) ∙ not-false _ (c .before .before .before .before .before .before .before .before .before .before .before .before .before .before .before .before .if2 .left)), (roomed-is _ _ _ _ (rooms-tell _ _ _ _ _ _ _ _ _ _ _ _ _ (c .before .before .before .before .before .before .before .before .before .before .before .before .before .before .before .rooms-for .ensures) (c .before .before .before .before .before .before .before .before .before .before .before .before .before .before .has-room .ensures) (not-false _ (c .before .before .before .before .before .before .before .before .before .before .before .before .before .if3 .left))), slabbed-is _ _ _ _ s))
+    passed (c .before .before .before .before .before .before .before .before .before .before .before .before .before .before .before .before .before .before .before .before .before .before .before .before .before .before .before .before .before .before .before .before .before .before .before .pre) (c .before .before .before .before .before .before .before .before .before .before .before .before .before .before .before .before .before .before .before .is-shaped .ensures) (not-false _ (c .before .before .before .before .before .before .before .before .before .before .before .before .before .before .before .before .before .before .if1 .left)) (c .before .before .before .before .before .before .before .before .before .before .before .before .before .before .before .before .before .is-entered .ensures) (not-false _ (c .before .before .before .before .before .before .before .before .before .before .before .before .before .before .before .before .if2 .left)) (c .before .before .before .before .before .before .before .before .before .before .before .before .before .before .before .rooms-for .ensures) (c .before .before .before .before .before .before .before .before .before .before .before .before .before .before .has-room .ensures) (not-false _ (c .before .before .before .before .before .before .before .before .before .before .before .before .before .if3 .left))
 
 same-length : tie.Need-same-length
 same-length c = c .before .before .before .before .before .before .before .before .before .before .before .before .before .before .before .before .before .before .before .before .before .before .before .before .before .before .solve-tested .kept .1 .1 .1 .1 .0
