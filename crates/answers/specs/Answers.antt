@@ -37,9 +37,6 @@ shownOf Singular = ShortOfRank
 pub rank-exactly : (a : Answer) → (shownOf a ≡ ShortOfRank) ↔ ((numberOf a ≡ 6) ⊎ (numberOf a ≡ 7))
 rank-exactly a = (forth a, back a)
   where
-    never : (s : Display) (P : Type 0) → s ≡ ShortOfRank → s ≡ AsSolved → P
-    never s P e f = let z : _≡_ {A = ℕ} 0 1 = cc in absurd (omega arith)
-
     forth : (a : Answer) → shownOf a ≡ ShortOfRank → (numberOf a ≡ 6) ⊎ (numberOf a ≡ 7)
     forth (Solved r) e = let z : _≡_ {A = ℕ} 0 1 = cc in absurd (omega arith)
     forth BadCount e = let z : _≡_ {A = ℕ} 0 1 = cc in absurd (omega arith)

@@ -1,7 +1,7 @@
 -- The working room of a system of m rows and l columns: what each slice has to hold, in entries, and all of them in bytes.
 --   roomsOf         the need of each slice
 --   needOf          the same, or that m and l are out of bounds
---   within-bound    in bytes the need is at most 16 m (l + h), for any number h of octet rows
+--   within-bound    for every l of the table the need in bytes is at most 16 m (l + h), with any number h of octet rows
 --   small-product   a product of rows and bytes is small
 --   need-one        two results that meet the statement are equal
 -- Assumes nothing.
@@ -11,7 +11,10 @@ use Prim.Native.Nat.{ℕ, _+_, _*_, _≤_}
 use native.Mathlib.Nat.{mul-le-mul-left, mul-le-mul-right, mul-add}
 use native.Mathlib.Omega.{arith}
 use lib.Dec.{leb}
-use Rattle.params.specs.Params.{mostRows}
+use Rattle.params.specs.Params.{mostRows, paramsOf}
+use Rattle.params.specs.Answers.{sized}
+use Rattle.params.specs.declared.Sizes.{Sizes}
+use Rattle.params.specs.declared.Parameters.the-variants.{Found}
 use Rattle.answers.specs.declared.Rooms.{Rooms}
 use Rattle.answers.specs.declared.Need.{Need}
 use Rattle.answers.specs.declared.Need.the-variants.{Entries, BadShape}
@@ -41,12 +44,14 @@ pub bytes-are : (m l : ℕ) → let r : Rooms = roomsOf m l in
     r .bytes ≡ r .work + r .scratch + 8 * (r .columns + r .rows + r .ones + r .degrees + r .singles + r .labels + r .sizes)
 bytes-are m l = omega arith
 
--- every table entry has l >= 27
-pub within-bound : (m l h : ℕ) → 27 ≤ l → l ≤ m → roomsOf m l .bytes ≤ 16 * (m * (l + h))
-within-bound m l h a b =
+bounded : (m l h : ℕ) → 27 ≤ l → l ≤ m → roomsOf m l .bytes ≤ 16 * (m * (l + h))
+bounded m l h a b =
     let x : m * 27 ≤ m * l = mul-le-mul-left m a in
     let y : m * (l + h) ≡ m * l + m * h = mul-add m l h in
     omega arith
+
+pub within-bound : (k m h : ℕ) (z : Sizes) → paramsOf k ≡ Found z → z .l ≤ m → roomsOf m (z .l) .bytes ≤ 16 * (m * (z .l + h))
+within-bound k m h z e = bounded m (z .l) h (sized k z e .least-l)
 
 pub small-product : (a b : ℕ) → a ≤ 256 → b ≤ 65535 → a * b ≤ 16776960
 small-product a b h k = omega (arith, mul-le-mul-right b h)

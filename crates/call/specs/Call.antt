@@ -1,5 +1,5 @@
 -- What a call answers and leaves, for every input.
---   Octets, octetsIn, rowsIn   the octet rows of a call, or none
+--   Octets, octetsIn, rowsIn   the octet rows of a call, or none;  rowsOf   as a caller says it
 --   Working, Buffers, Outcome   the working slices; all lent buffers; an answer beside them
 --   wiped, wiped-are   working slices that were cleared
 --   shaped, entered, roomy   the tests for 2, 3 and 4
@@ -29,6 +29,8 @@ use Rattle.answers.specs.declared.Rooms.{Rooms}
 use Rattle.answers.specs.declared.Answer.{Answer}
 use Rattle.answers.specs.declared.Answer.the-variants.{Solved, BadCount, BadShape, BadEntry, NoRoom, ListFull, NoPivot, Singular}
 use Rattle.answers.specs.Rooms.{roomsOf}
+use Rattle.call.specs.declared.OctetRows.{OctetRows}
+use Rattle.call.specs.declared.OctetRows.the-variants.{Given, Absent}
 use Rattle.call.specs.Over.{over, blank}
 
 pub data Octets : Type 0 where
@@ -38,6 +40,11 @@ pub data Octets : Type 0 where
 abbrev pub octetsIn : Octets → List ℕ
 octetsIn (given xs) = xs
 octetsIn none = []
+
+-- what is lent as octet rows counts where the caller says that they are given
+unfoldable pub rowsOf : OctetRows → List ℕ → Octets
+rowsOf Given xs = given xs
+rowsOf Absent xs = none
 
 -- H of the table where octet rows are given, else 0
 abbrev pub rowsIn : Octets → Sizes → ℕ

@@ -23,6 +23,7 @@ use params::Sizes;
 use solver::Answer;
 use solver::Counts;
 use solver::Need;
+use solver::OctetRows;
 use solver::Report;
 use solver::Rooms;
 use systems::Read;
@@ -348,66 +349,12 @@ fn rooms_hold(
     Held { untouched, cleared }
 }
 
-// The call with or without octet rows.
-fn solve(
-    l: Lent,
-    bits: &[u8],
-    octets: &[u8],
-    slab: &mut [u8],
-    list: &mut [u64],
-    order: &mut [usize],
-    vector: &mut [u8],
-    work: &mut [u8],
-    scratch: &mut [u8],
-    columns: &mut [usize],
-    rows: &mut [usize],
-    ones: &mut [usize],
-    degrees: &mut [usize],
-    singles: &mut [usize],
-    labels: &mut [usize],
-    sizes: &mut [usize],
-) -> Answer {
-    if l.octet {
-        return solver::solve(
-            l.k,
-            l.m,
-            l.t,
-            bits,
-            octets,
-            slab,
-            list,
-            order,
-            vector,
-            work,
-            scratch,
-            columns,
-            rows,
-            ones,
-            degrees,
-            singles,
-            labels,
-            sizes,
-        );
+// What a case says of its octet rows.
+fn octet_rows(given: bool) -> OctetRows {
+    if given {
+        return OctetRows::Given;
     }
-    solver::solve_binary(
-        l.k,
-        l.m,
-        l.t,
-        bits,
-        slab,
-        list,
-        order,
-        vector,
-        work,
-        scratch,
-        columns,
-        rows,
-        ones,
-        degrees,
-        singles,
-        labels,
-        sizes,
-    )
+    OctetRows::Absent
 }
 
 // The call, and what became of its working slices.
@@ -429,9 +376,12 @@ fn solve_in(
     labels: &mut [usize],
     sizes: &mut [usize],
 ) -> Outcome {
-    let answer = solve(
-        l,
+    let answer = solver::solve(
+        l.k,
+        l.m,
+        l.t,
         bits,
+        octet_rows(l.octet),
         octets,
         slab,
         list,

@@ -128,6 +128,7 @@ pub record Sized (k : ℕ) (z : Sizes) : Type 0 where
   pub is-l : z .l ≡ z .k + z .s + z .h
   pub is-p : z .l ≡ z .w + z .p
   pub some-l : 0 < z .l
+  pub least-l : 27 ≤ z .l
   pub most-l : z .l ≤ mostRows
   pub some-s : 0 < z .s
   pub some-h : 0 < z .h
@@ -154,6 +155,7 @@ sized-row k r some reaches most c =
       is-l = refl;
       is-p = omega arith;
       some-l = omega arith;
+      least-l = c .l-least;
       most-l = most;
       some-s = c .some-s;
       some-h = c .some-h;

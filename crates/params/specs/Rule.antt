@@ -37,6 +37,7 @@ claims b r =
     upto (r .s + lengthOf r) (r .w + r .w) ∷
     upto (r .j) 1_000 ∷
     less (lengthOf r) 65_536 ∷
+    upto 27 (lengthOf r) ∷
     same (unpack (pack r) .k) (r .k) ∷
     same (unpack (pack r) .j) (r .j) ∷
     same (unpack (pack r) .s) (r .s) ∷
@@ -65,12 +66,13 @@ pub record Right (r : Row) : Type 0 where
   pub sp-upto-w : r .s + lengthOf r ≤ r .w + r .w
   pub j-upto : r .j ≤ 1_000
   pub l-small : lengthOf r < 65_536
+  pub l-least : 27 ≤ lengthOf r
   pub packs : unpack (pack r) ≡ r
 
 -- what the claims of a row say
 right : (b : ℕ) (r : Row) → Hold (claims b r) → (b < r .k) × Right r
 unfolding claims
-right b r (above, (wl, (s, (h, (sk, (hk, (kw, (wks, (spw, (j, (l, (pk, (pj, (ps, (ph, (pw, _)))))))))))))))) = (
+right b r (above, (wl, (s, (h, (sk, (hk, (kw, (wks, (spw, (j, (l, (ll, (pk, (pj, (ps, (ph, (pw, _))))))))))))))))) = (
   above,
   record {
     w-below-l = wl;
@@ -83,6 +85,7 @@ right b r (above, (wl, (s, (h, (sk, (hk, (kw, (wks, (spw, (j, (l, (pk, (pj, (ps,
     sp-upto-w = spw;
     j-upto = j;
     l-small = l;
+    l-least = ll;
     packs = rw (pk, pj, ps, ph, pw);
   },
 )

@@ -37,10 +37,11 @@ use Rattle.answers.specs.declared.Answer.{Answer}
 use Rattle.answers.specs.declared.Answer.the-variants.{ListFull, NoPivot}
 use Rattle.call.specs.Over.{over, blank, over-same, length-over}
 use Rattle.call.specs.Call.{Working, answerOf, told}
-use Rattle.running.specs.Ran.{asShape, Posed, Cut, Ran}
-use Rattle.running.specs.Told.{posed-fit, entered-at}
-use Rattle.running.specs.Journal.{Holds, Counted, holds-first, holds-short, holds-long, counts-first}
-use Rattle.running.specs.After.{Z, A, p, ts, os, cols, rest, X, First}
+use Rattle.ending.specs.Ran.{asShape, Posed, Ran}
+use Rattle.ending.specs.Told.{posed-fit, entered-at}
+use Rattle.ending.specs.Journal.{Holds, Counted, holds-first, holds-short, holds-long, counts-first}
+use Rattle.ending.specs.After.{Z, A, p, ts, os, cols, rest, X, First}
+use Rattle.running.specs.Lent.{Cut}
 
 -- nothing recorded yet
 abbrev pub unused : Tally

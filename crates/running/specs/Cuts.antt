@@ -13,7 +13,7 @@ use lib.Seq.{length-take-le}
 use Rattle.call.specs.declared.Shape.{Shape}
 use Rattle.call.specs.Over.{over-same}
 use Rattle.call.specs.Call.{Working, working, wiped}
-use Rattle.running.specs.Ran.{Roomed, Cut}
+use Rattle.running.specs.Lent.{Roomed, Cut}
 
 -- the first n entries, and the slice with r in their place, as the checker has them
 abbrev pub cut : ℕ → List ℕ → List ℕ

@@ -1,10 +1,3 @@
-pub mod Scalars
-pub mod Ran
-pub mod Told
-pub mod Journal
-pub mod After
-pub mod Then
-pub mod Ends
-pub mod Stops
+pub mod Lent
 pub mod Begins
 pub mod Cuts

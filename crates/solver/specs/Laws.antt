@@ -50,9 +50,10 @@ use Rattle.answers.specs.declared.Answer.the-variants.{BadCount, BadShape, BadE
 use Rattle.answers.specs.Answers.{numberOf}
 use Rattle.call.specs.Over.{over, take-over, at-over}
 use Rattle.call.specs.Call.{Octets, octetsIn, rowsIn, Working, Buffers, buffers, Outcome, outcome, shaped, entered, roomy, roomyFor, answerOf, ended, shapeOf, told, checked, counted, callOf}
-use Rattle.running.specs.Ran.{asShape, Posed, Roomed, Slabbed, Tabled, opsIn}
-use Rattle.running.specs.Told.{posed-fit, opsIn-told, told-says}
-use Rattle.tested.specs.Checked.{Shaped, shaped-facts, tabled-given, tabled-none, posed-is, roomed-is, slabbed-is, at-run, at-table}
+use Rattle.ending.specs.Ran.{asShape, Posed, opsIn}
+use Rattle.running.specs.Lent.{Roomed}
+use Rattle.ending.specs.Told.{posed-fit, opsIn-told, told-says}
+use Rattle.solver.specs.Checked.{Tabled, Shaped, shaped-facts, tabled-given, tabled-none, posed-is, roomed-is, slabbed-is, at-run, at-table}
 
 pub call-one : (k m t : ℕ) (bits : List ℕ) (o : Octets) (b : Buffers) (x y : Outcome) → x ≡ callOf k m t bits o b → y ≡ callOf k m t bits o b → x ≡ y
 call-one k m t bits o b x y e f = e ∙ sym f

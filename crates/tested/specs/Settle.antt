@@ -24,8 +24,10 @@ use Rattle.call.specs.declared.Shape.{Shape}
 use Rattle.answers.specs.declared.Answer.{Answer}
 use Rattle.call.specs.Over.{over, keep, over-same}
 use Rattle.call.specs.Call.{Working, wiped, Buffers, buffers, outcome, answerOf, left, ended, told}
-use Rattle.running.specs.Ran.{asShape, Posed, Ran, Worked, opsIn, Settling, Settled, Slabbed}
-use Rattle.running.specs.Told.{opsIn-told, told-says, told-words}
+use Rattle.ending.specs.Ran.{asShape, Posed, Ran, opsIn}
+use Rattle.running.specs.Lent.{Worked}
+use Rattle.tested.specs.Parts.{Settling, Settled, Slabbed}
+use Rattle.ending.specs.Told.{opsIn-told, told-says, told-words}
 
 module _ {m l t n : ℕ} {list slab : List ℕ} (s : Settling m l t n list slab) where
   front : take (n - 0) (drop 0 list) ≡ take n list

@@ -1,11 +1,12 @@
-// A call whose count is in the table: its tests, its run, and the list applied to the slab.
+// A call that passed its tests: its run, and the list applied to the slab.
 ghost use mathlib.Core.Path.{_≡_};
 ghost use lib.ListN.{length};
-ghost use Rattle.call.specs.Call.{working, buffers, outcome, ended, told, checked};
-ghost use Rattle.running.specs.Ran.{asShape, Posed, Roomed, opsIn, Settling, Settled, Slabbed, Tabled};
+ghost use Rattle.call.specs.Call.{working, buffers, outcome, ended, told};
+ghost use Rattle.ending.specs.Ran.{asShape, Posed, opsIn};
+ghost use Rattle.running.specs.Lent.{Roomed};
+ghost use Rattle.tested.specs.Parts.{Settling, Settled, Slabbed};
 use answers::Answer;
 use call::Shape;
-use params::Sizes;
 
 // How many operations an answer reports.
 fn operations(a: Answer) -> usize
@@ -42,7 +43,7 @@ fn settle(
 }
 
 // A call that passed the tests.
-fn solve_tested(
+pub fn solve_tested(
     z: Shape,
     t: usize,
     bits: &[u8],
@@ -87,77 +88,4 @@ fn solve_tested(
     let l = z.l;
     settle(a, m, l, t, slab, list, order);
     a
-}
-
-// A call whose count is in the table, with h octet rows.
-pub fn call(
-    g: Sizes,
-    h: usize,
-    m: usize,
-    t: usize,
-    bits: &[u8],
-    octets: &[u8],
-    slab: &mut [u8],
-    list: &mut [u64],
-    order: &mut [usize],
-    vector: &mut [u8],
-    work: &mut [u8],
-    scratch: &mut [u8],
-    columns: &mut [usize],
-    rows: &mut [usize],
-    ones: &mut [usize],
-    degrees: &mut [usize],
-    singles: &mut [usize],
-    labels: &mut [usize],
-    sizes: &mut [usize],
-) -> Answer
-    requires { ⌜ Tabled g h ⌝ }
-    ensures { λ r. ⌜ outcome r (buffers (now (slab .exit)) (now (list .exit)) (now (order .exit)) (now (vector .exit)) (working (now (work .exit)) (now (scratch .exit)) (now (columns .exit)) (now (rows .exit)) (now (ones .exit)) (now (degrees .exit)) (now (singles .exit)) (now (labels .exit)) (now (sizes .exit)))) ≡ checked g h m t (now (bits .entry)) (now (octets .entry)) (buffers (now (slab .entry)) (now (list .entry)) (now (order .entry)) (now (vector .entry)) (working (now (work .entry)) (now (scratch .entry)) (now (columns .entry)) (now (rows .entry)) (now (ones .entry)) (now (degrees .entry)) (now (singles .entry)) (now (labels .entry)) (now (sizes .entry)))) ⌝ }
-{
-    let l = g.l;
-    let s = g.s;
-    let w = g.w;
-    if !call::checks::is_shaped(l, h, m, t, list.len(), bits.len(), octets.len(), slab.len()) {
-        return Answer::BadShape;
-    }
-    if !call::checks::is_entered(bits, m, l, s, h) {
-        return Answer::BadEntry;
-    }
-    let need = answers::rooms_for(m, l);
-    if !call::checks::has_room(
-        l,
-        need,
-        order.len(),
-        vector.len(),
-        work.len(),
-        scratch.len(),
-        columns.len(),
-        rows.len(),
-        ones.len(),
-        degrees.len(),
-        singles.len(),
-        labels.len(),
-        sizes.len(),
-    ) {
-        return Answer::NoRoom;
-    }
-    solve_tested(
-        Shape { m, l, s, h, w },
-        t,
-        bits,
-        octets,
-        slab,
-        list,
-        order,
-        vector,
-        work,
-        scratch,
-        columns,
-        rows,
-        ones,
-        degrees,
-        singles,
-        labels,
-        sizes,
-    )
 }

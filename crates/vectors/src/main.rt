@@ -6,6 +6,7 @@ use libc::STDOUT_FILENO;
 use oplist::Op;
 use oplist::Word;
 use solver::Answer;
+use solver::OctetRows;
 use solver::Report;
 use systems::Place;
 use systems::Read;
@@ -189,6 +190,14 @@ fn put_counts(r: Report) {
     );
 }
 
+// What a case says of its octet rows.
+fn octet_rows(given: bool) -> OctetRows {
+    if given {
+        return OctetRows::Given;
+    }
+    OctetRows::Absent
+}
+
 // The call, over working rooms of its own.
 fn call(
     s: System,
@@ -208,33 +217,13 @@ fn call(
     let mut singles = [0usize; 256];
     let mut labels = [0usize; 256];
     let mut sizes = [0usize; 514];
-    if s.octet {
-        return solver::solve(
-            s.k,
-            s.m,
-            s.t,
-            bits,
-            octets,
-            slab,
-            list,
-            order,
-            vector,
-            &mut work,
-            &mut scratch,
-            &mut columns,
-            &mut rows,
-            &mut ones,
-            &mut degrees,
-            &mut singles,
-            &mut labels,
-            &mut sizes,
-        );
-    }
-    solver::solve_binary(
+    solver::solve(
         s.k,
         s.m,
         s.t,
         bits,
+        octet_rows(s.octet),
+        octets,
         slab,
         list,
         order,

@@ -8,7 +8,7 @@ use Rattle.running.proofs.run.Lts as lts
 use Rattle.call.proofs.clear.numbers.Reads as numbers-reads
 use Rattle.call.proofs.clear.bytes.Reads as bytes-reads
 use Rattle.firstphase.proofs.phase_one.Reads as phase-one-reads
-use Rattle.running.proofs.go_on.Reads as go-on-reads
+use Rattle.ending.proofs.go_on.Reads as go-on-reads
 
 numbers-requires : tie.Need-numbers-requires
 numbers-requires c κs = tt

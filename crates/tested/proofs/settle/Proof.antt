@@ -3,7 +3,7 @@ use mathlib.Core.Path.{sym, ap, _∙_, subst}
 use lib.ListN.{length, take}
 use Rattle.oplist.specs.Listed.{opsOf}
 use Rattle.algebra.specs.Flat.{acts}
-use Rattle.running.specs.Ran.{Settling}
+use Rattle.tested.specs.Parts.{Settling}
 use Prim.Native.Nat.{ℕ, _≤_}
 use borrow.Author.Needs.{needs}
 use Rattle.call.specs.Over.{keep}

@@ -1,17 +1,17 @@
 -- `finish` meets its contract. Assumes nothing.
 use mathlib.Core.Path.{refl, _∙_}
 use Prim.Native.Nat.{zero-le}
-use Rattle.running.specs.Ends.{steps-within, marked-is, stage-two, stage-next, third-is, fourth-is, fifth-is, listing, chosen-is, ordering-is, full-ending, solved-ending}
-use Rattle.running.proofs.finish.Statement.{statement}
-use Rattle.running.proofs.finish.Tie as tie
-use Rattle.running.proofs.finish.Reads as reads
-use Rattle.running.proofs.finish.Lts as lts
+use Rattle.ending.specs.Ends.{steps-within, marked-is, stage-two, stage-next, third-is, fourth-is, fifth-is, listing, chosen-is, ordering-is, full-ending, solved-ending}
+use Rattle.ending.proofs.finish.Statement.{statement}
+use Rattle.ending.proofs.finish.Tie as tie
+use Rattle.ending.proofs.finish.Reads as reads
+use Rattle.ending.proofs.finish.Lts as lts
 use Rattle.rest.proofs.mark.Reads as mark-reads
 use Rattle.rest.proofs.phase_three.Reads as phase-three-reads
 use Rattle.rest.proofs.phase_four.Reads as phase-four-reads
 use Rattle.rest.proofs.phase_five.Reads as phase-five-reads
 use Rattle.rest.proofs.order_of.Reads as order-of-reads
-use Rattle.running.proofs.counts_of.Reads as counts-of-reads
+use Rattle.ending.proofs.counts_of.Reads as counts-of-reads
 
 sub-mark : tie.Need-sub-mark
 sub-mark c = zero-le

@@ -1,36 +1,37 @@
 -- The tests of a call, and what a call that passed them has.
+--   Tabled                 sizes of the table, with h octet rows;  tabled-given, tabled-none   they are so with their octet rows and without
 --   Shaped, shaped-facts   the bounds and the lengths, each by itself
---   tabled-given, tabled-none   sizes of the table, with their octet rows and without
---   entering, posed-is, roomed-is, slabbed-is   what the parts of a call need
---   passed                 all of these, from the answers of the tests
+--   few-octets, entering, posed-is, roomed-is, slabbed-is   what the parts of a call need
 --   at-shape, at-entry, at-room, at-run   the definition, test by test
 --   at-count, at-table     the definition, by the table
---   rooms-tell             the test of the rooms
 -- Assumes nothing.
-use mathlib.Core.Path.{_≡_, refl, sym, ap, ap₂, _∙_}
+use mathlib.Core.Path.{_≡_}
 use mathlib.Core.Bool.{Bool, true, false}
-use mathlib.Core.List.{List, [], _++_}
-use Prim.Native.Nat.{ℕ, _+_, _-_, _*_, _≤_}
+use mathlib.Core.List.{List, []}
+use Prim.Native.Nat.{ℕ, _+_, _*_, _≤_}
 use native.Mathlib.Omega.{arith}
 use borrow.Author.Tests.{leb-true, eqb-true}
 use lib.Dec.{leb, eqb}
-use lib.ListN.{length, take, drop, length-append, length-drop}
-use lib.Seq.{length-take-le}
+use lib.ListN.{length}
 use Rattle.params.specs.Params.{mostRows, paramsOf}
-use Rattle.params.specs.Answers.{Sized, sized}
+use Rattle.params.specs.Answers.{sized}
 use Rattle.params.specs.declared.Sizes.{Sizes}
-use Rattle.params.specs.declared.Parameters.{Parameters}
 use Rattle.params.specs.declared.Parameters.the-variants.{Found, BadCount as NoEntry}
 use Rattle.oplist.specs.Check.{mostOps}
 use Rattle.oplist.specs.Facts.{and-left, and-right}
 use Rattle.slab.specs.Replay.{mostBytes}
 use Rattle.call.specs.declared.Shape.{Shape}
-use Rattle.answers.specs.declared.Rooms.{Rooms}
 use Rattle.answers.specs.declared.Answer.the-variants.{BadCount, BadShape, BadEntry, NoRoom}
-use Rattle.answers.specs.Rooms.{roomsOf}
-use Rattle.call.specs.Over.{blank, over-same}
-use Rattle.call.specs.Call.{Octets, octetsIn, rowsIn, Working, working, wiped, Buffers, buffers, outcome, shaped, entered, roomy, roomyFor, shapeOf, told, ended, checked, callOf}
-use Rattle.running.specs.Ran.{Posed, Roomed, Cut, Slabbed, Tabled}
+use Rattle.call.specs.Call.{Octets, octetsIn, rowsIn, Working, Buffers, buffers, outcome, shaped, entered, roomy, roomyFor, shapeOf, told, ended, checked, callOf}
+use Rattle.ending.specs.Ran.{Posed}
+use Rattle.running.specs.Lent.{Roomed}
+use Rattle.tested.specs.Parts.{Slabbed}
+
+pub record Tabled (g : Sizes) (h : ℕ) : Type 0 where
+  pub some : 1 ≤ g .l
+  pub most : g .l ≤ mostRows
+  pub rows-fit : g .s + h + h ≤ g .l
+  pub cols-fit : g .w ≤ g .l
 
 pub record Shaped (l h m t list bits octets slab : ℕ) : Type 0 where
   pub narrow : l ≤ m
@@ -124,20 +125,6 @@ roomed-is z order vector w e =
       sizes-room = leb-true _ _ (and-right (leb (z .l) (length (w .labels))) _ j);
     }
 
--- the three tests passed, as the code has their answers
-pub passed : {g : Sizes} {h m t : ℕ} {bits octets list slab order vector : List ℕ} {w : Working} {r : Rooms} {x y z : Bool} → Tabled g h
-    → x ≡ shaped (g .l) h m t (length list) (length bits) (length octets) (length slab) → x ≡ true → y ≡ entered (g .l) (g .s) h bits → y ≡ true
-    → r ≡ roomsOf m (g .l)
-    → z ≡ roomy (g .l) r (length order) (length vector) (length (w .work)) (length (w .scratch)) (length (w .columns)) (length (w .rows)) (length (w .ones))
-    (length (w .degrees)) (length (w .singles)) (length (w .labels)) (length (w .sizes)) → z ≡ true
-    → Posed (record { m = m; l = g .l; s = g .s; h = h; w = g .w }) bits octets
-    × (Roomed (record { m = m; l = g .l; s = g .s; h = h; w = g .w }) order vector w × Slabbed (record { m = m; l = g .l; s = g .s; h = h; w = g .w }) t list slab)
-passed {g} {h} {m} {t} {bits} {octets} {list} {slab} {order} {vector} {w} q a b c d e f i =
-    let s = shaped-facts _ _ _ _ _ _ _ _ (sym a ∙ b) in (
-      posed-is q bits octets s (sym c ∙ d),
-      (roomed-is (record { m = m; l = g .l; s = g .s; h = h; w = g .w }) order vector w (rw (sym e) (sym f ∙ i)), slabbed-is (g .s) (g .w) list slab s),
-    )
-
 module _ (g : Sizes) (h m t : ℕ) (bits octets : List ℕ) (b : Buffers) where
   abbrev shape : Bool
   shape = shaped (g .l) h m t (length (b .list)) (length bits) (length octets) (length (b .slab))
@@ -167,9 +154,3 @@ module _ (k m t : ℕ) (bits : List ℕ) (o : Octets) (b : Buffers) where
   pub at-table : (g : Sizes) → paramsOf k ≡ Found g → checked g (rowsIn o g) m t bits (octetsIn o) b ≡ callOf k m t bits o b
   unfolding callOf
   at-table g e = rw e
-
--- the rooms that were asked are those of the formula
-pub rooms-tell : {x y : Bool} {r : Rooms} (l m order vector work scratch columns rows ones degrees singles labels sizes : ℕ) → r ≡ roomsOf m l
-    → x ≡ roomy l r order vector work scratch columns rows ones degrees singles labels sizes → x ≡ y
-    → roomy l (roomsOf m l) order vector work scratch columns rows ones degrees singles labels sizes ≡ y
-rooms-tell l m order vector work scratch columns rows ones degrees singles labels sizes e f g = rw (sym e, sym f, g)

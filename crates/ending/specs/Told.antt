@@ -34,8 +34,8 @@ use Rattle.phases.specs.Combined.{combined-fit}
 use Rattle.phases.specs.Answers.{solved-reduces}
 use Rattle.call.specs.declared.Shape.{Shape}
 use Rattle.call.specs.Call.{bitwise, entered, answerOf, told}
-use Rattle.running.specs.Scalars.{Scaled, answer-scaled}
-use Rattle.running.specs.Ran.{asShape, Posed, opsIn}
+use Rattle.ending.specs.Scalars.{Scaled, answer-scaled}
+use Rattle.ending.specs.Ran.{asShape, Posed, opsIn}
 
 pub bitwise-at : (xs : List ℕ) → bitwise xs ≡ true → (i : ℕ) → getD xs i 0 ≤ 1
 unfolding bitwise

@@ -36,12 +36,12 @@ use Rattle.answers.specs.declared.Answer.{Answer}
 use Rattle.answers.specs.declared.Answer.the-variants.{ListFull, Singular}
 use Rattle.call.specs.Over.{over, blank}
 use Rattle.call.specs.Call.{answerOf, told}
-use Rattle.running.specs.Ran.{asShape, Posed, Ran}
-use Rattle.running.specs.Told.{posed-fit}
-use Rattle.running.specs.Journal.{Holds, holds-short, holds-long}
-use Rattle.running.specs.After.{Z, A, p, ts, os, cols, rest, X, columns-facts}
-use Rattle.running.specs.Then.{run-is, Stuck}
-use Rattle.running.specs.Ends.{Ending, over-placed}
+use Rattle.ending.specs.Ran.{asShape, Posed, Ran}
+use Rattle.ending.specs.Told.{posed-fit}
+use Rattle.ending.specs.Journal.{Holds, holds-short, holds-long}
+use Rattle.ending.specs.After.{Z, A, p, ts, os, cols, rest, X, columns-facts}
+use Rattle.ending.specs.Then.{run-is, Stuck}
+use Rattle.ending.specs.Ends.{Ending, over-placed}
 
 pub ending-ran : (z : Shape) (bits octets : List ℕ) {n m : ℕ} {r : Answer} {list order₀ order vector : List ℕ} → n ≡ m → Ending (told (asShape z) bits octets n) r list order₀ order
     → vector ≡ blank vector → Ran (told (asShape z) bits octets m) r list order₀ vector order vector

@@ -54,11 +54,11 @@ use Rattle.answers.specs.declared.Answer.{Answer}
 use Rattle.answers.specs.declared.Answer.the-variants.{Solved, ListFull}
 use Rattle.call.specs.Over.{over, blank, after-over, length-over}
 use Rattle.call.specs.Call.{answerOf, told}
-use Rattle.running.specs.Ran.{asShape, Posed}
-use Rattle.running.specs.Told.{posed-fit, entered-at}
-use Rattle.running.specs.Journal.{Holds, Counted, holds-more, holds-short, holds-long, holds-used, holds-words, holds-behind, holds-counts}
-use Rattle.running.specs.After.{Z, A, p, ts, os, cols, rest, X, First, Reached, rows-facts, columns-facts, one-within, one-small}
-use Rattle.running.specs.Then.{two-of, run-is}
+use Rattle.ending.specs.Ran.{asShape, Posed}
+use Rattle.ending.specs.Told.{posed-fit, entered-at}
+use Rattle.ending.specs.Journal.{Holds, Counted, holds-more, holds-short, holds-long, holds-used, holds-words, holds-behind, holds-counts}
+use Rattle.ending.specs.After.{Z, A, p, ts, os, cols, rest, X, First, Reached, rows-facts, columns-facts, one-within, one-small}
+use Rattle.ending.specs.Then.{two-of, run-is}
 
 -- the counts of a phase, by value
 abbrev pub countsOf : ℕ → ℕ → Counts

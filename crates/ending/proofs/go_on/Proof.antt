@@ -1,15 +1,15 @@
 -- `go_on` meets its contract. Assumes nothing.
 use mathlib.Core.Path.{_∙_}
-use Rattle.running.specs.After.{prepared-is}
-use Rattle.running.specs.Then.{reached-is, stuck-is}
-use Rattle.running.specs.Ends.{blank-room}
-use Rattle.running.specs.Stops.{ending-ran, valuing-is, stuck-full, stuck-ending}
-use Rattle.running.proofs.go_on.Statement.{statement}
-use Rattle.running.proofs.go_on.Tie as tie
-use Rattle.running.proofs.go_on.Reads as reads
-use Rattle.running.proofs.go_on.Lts as lts
+use Rattle.ending.specs.After.{prepared-is}
+use Rattle.ending.specs.Then.{reached-is, stuck-is}
+use Rattle.ending.specs.Ends.{blank-room}
+use Rattle.ending.specs.Stops.{ending-ran, valuing-is, stuck-full, stuck-ending}
+use Rattle.ending.proofs.go_on.Statement.{statement}
+use Rattle.ending.proofs.go_on.Tie as tie
+use Rattle.ending.proofs.go_on.Reads as reads
+use Rattle.ending.proofs.go_on.Lts as lts
 use Rattle.second.proofs.phase_two.Reads as phase-two-reads
-use Rattle.running.proofs.finish.Reads as finish-reads
+use Rattle.ending.proofs.finish.Reads as finish-reads
 use Rattle.rest.proofs.vector_of.Reads as vector-of-reads
 
 phase-two-requires : tie.Need-phase-two-requires

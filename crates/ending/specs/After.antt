@@ -38,10 +38,10 @@ use Rattle.tally.specs.Book.{book}
 use Rattle.second.specs.Whole.{Prepared}
 use Rattle.call.specs.declared.Shape.{Shape}
 use Rattle.call.specs.Call.{Working}
-use Rattle.running.specs.Scalars.{Scaled, one-scaled}
-use Rattle.running.specs.Ran.{asShape, Posed, Cut}
-use Rattle.running.specs.Told.{posed-fit}
-use Rattle.running.specs.Journal.{Holds, Counted, holds-short, holds-used, holds-words}
+use Rattle.ending.specs.Scalars.{Scaled, one-scaled}
+use Rattle.ending.specs.Ran.{asShape, Posed}
+use Rattle.ending.specs.Told.{posed-fit}
+use Rattle.ending.specs.Journal.{Holds, Counted, holds-short, holds-used, holds-words}
 
 -- a list whose members occur once, below m
 getD-member : (xs : List ℕ) (k : ℕ) → k < length xs → Member xs (getD xs k 0)

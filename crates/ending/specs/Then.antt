@@ -33,9 +33,9 @@ use Rattle.second.specs.Fill.{entries}
 use Rattle.second.specs.Whole.{finished, both, begun, Reduced}
 use Rattle.rest.specs.Again.{words-kept}
 use Rattle.call.specs.declared.Shape.{Shape}
-use Rattle.running.specs.Ran.{asShape, Posed}
-use Rattle.running.specs.Journal.{Holds, Counted, holds-more, holds-short, holds-used, holds-words, holds-counts}
-use Rattle.running.specs.After.{Z, A, p, ts, os, cols, rest, X, First, Reached, one-small}
+use Rattle.ending.specs.Ran.{asShape, Posed}
+use Rattle.ending.specs.Journal.{Holds, Counted, holds-more, holds-short, holds-used, holds-words, holds-counts}
+use Rattle.ending.specs.After.{Z, A, p, ts, os, cols, rest, X, First, Reached, one-small}
 
 -- the whole of phase two's list
 abbrev pub two-of : Out Op Second → List Op
