@@ -2,6 +2,10 @@
 -- what it does to each of its w columns. m is the number of rows.
 --   Bytes l                     every entry of l is an octet
 --   row w r l, view w t l       row r, a list; column t, a function of the row
+--   fits                        a row below m lies within the slab
+--   length-row, getD-row        a row below m has w entries, and its entry t is what column t has there
+--   zip f xs ys                 two lists joined entry by entry, as far as the shorter goes
+--   written w o l               what the operation o puts into the row that it writes
 --   act w o l, acts w os l      the slab after the operation o; after the list os
 --   length-act, view-act        an operation keeps the length, and does `step` to each column
 --   length-acts, view-acts      a list keeps the length, and does `run` to each column

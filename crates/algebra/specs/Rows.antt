@@ -1,6 +1,9 @@
 -- Row operations. A column of rows is a function of the row. An operation acts on each column by itself, so a matrix and a slab are columns side by side.
 --   Good                    the operation can be undone: dest is not src, and MulAssign's scalar is an octet that is not zero
+--   Within                  the rows of the operation are below m
 --   put v d y, column A j   the column with y in row d; column j of a matrix
+--   put-same, put-other     the column with y in row d has y there, and elsewhere what it had
+--   put-back                what stood in row d, put back, restores the column
 --   value, step, run, runs  what an operation writes; a column after an operation, after a list; a matrix after a list
 --   inverse, undo           the operation that undoes one; the list that undoes one, last operation first
 --   step-octet, run-octet   octets stay octets

@@ -1,4 +1,5 @@
 -- The vector of a Singular answer: where column p has no pivot, it is 1 at p, 0 at later columns, and the rest by substitution.
+--   right         what stands right of the diagonal in a row, with zeros for the rest
 --   Stuck         the first p rows are an upper triangle with ones on the diagonal, and the rows from p on have no nonzero up to column p
 --   Substituted   the vector of a stuck matrix
 --   sent          a stuck matrix sends its vector to zeros

@@ -1,6 +1,8 @@
 -- What a solved call means for lists of bytes: the slab is one list of m rows of w bytes, a set of intermediate symbols one list of n rows of w bytes.
 --   tab n f            the list f 0, .., f (n - 1)
+--   length-tab, getD-tab, tab-bytes   it has n entries, entry k is f k, and they are octets where f gives octets
 --   through            the rows of a slab that the order names, in its order
+--   view-through       byte t of its row j is byte t of the slab row that the order names for j
 --   Source             a set of symbols makes the slab: the matrix times the set is the slab
 --   solved             after a list that reduces the matrix, the slab read through the order is the set that makes it
 --   only               no other set makes it

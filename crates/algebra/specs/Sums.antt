@@ -2,7 +2,12 @@
 --   pick, pick-eq, pick-ne   one of two numbers, by a test
 --   delta i j                1 where the two are equal, else 0
 --   sum n f, dot n a x       f 0 + .. + f (n - 1); a 0 x 0 + .. + a (n - 1) x (n - 1)
---   sum-.., dot-..           their laws: entry by entry, all zeros, one term, sums, multiples, two sums exchanged
+--   sum-ext, sum-zero        sums with the same terms, entry by entry, are the same; a sum of all zeros is 0
+--   sum-one                  a sum in which all terms but one are zero is that term
+--   sum-octet, dot-octet     a sum of octets is an octet; every row times a column is one
+--   sum-add, dot-add         where terms, or rows, are added, so are the sums
+--   sum-mul, dot-mul         where the terms, or the row, are multiplied by c, so is the sum
+--   sum-swap                 two sums exchanged
 -- Assumes nothing.
 use mathlib.Core.Path.{_≡_, refl, sym, ap, ap₂, _∙_}
 use mathlib.Core.Logic.{_≢_}

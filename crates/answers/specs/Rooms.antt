@@ -1,6 +1,7 @@
 -- The working room of a system of m rows and l columns: what each slice has to hold, in entries, and all of them in bytes.
 --   roomsOf         the need of each slice
 --   needOf          the same, or that m and l are out of bounds
+--   bytes-are       the bytes are one for each entry of work and scratch, and 8 for each other entry
 --   within-bound    for every l of the table the need in bytes is at most 16 m (l + h), with any number h of octet rows
 --   small-product   a product of rows and bytes is small
 --   need-one        two results that meet the statement are equal

@@ -1,11 +1,21 @@
 -- What a call answers and leaves, for every input.
---   Octets, octetsIn, rowsIn   the octet rows of a call, or none;  rowsOf   as a caller says it
+--   Octets, octetsIn, rowsIn   the octet rows of a call, or none; their entries; how many they are: H of the table, or 0
+--   rowsOf             what is lent as octet rows, as a caller says it: given or absent
 --   Working, Buffers, Outcome   the working slices; all lent buffers; an answer beside them
+--   working, buffers, outcome   one of each, made of its parts
 --   wiped, wiped-are   working slices that were cleared
 --   shaped, entered, roomy   the tests for 2, 3 and 4
+--   bitwise            every entry is 0 or 1: what the test for 3 asks of the rows before the octet rows, and of those after them
+--   roomyFor           the test for 4, of lent buffers
 --   reportOf, answerOf, left   what a run's answer reports, its answer, and the buffers after it
---   checked            a call whose count is in the table
---   callOf             a call
+--   countsAt           the additions and multiplications of one phase, by its place
+--   named              the answer with a number: 0 Solved with its report, 5 ListFull, 6 NoPivot, else Singular
+--   ended              the answer of a run, beside the buffers after it
+--   shapeOf            the shape of m rows, of which h are octet rows, by the sizes of the table
+--   told               what the defined run, plain, answers in a list room of so many operations
+--   checked            a call whose count is in the table: the lowest of 2, 3 and 4 that applies, and nothing changes; else the run
+--   counted            a call by what the table says of its count: it is checked, or the answer is 1 and nothing changes
+--   callOf             a call with K source symbols, M rows of T bytes, the binary matrix, the octet rows and the lent buffers
 -- Assumes nothing.
 use mathlib.Core.Path.{_≡_}
 use mathlib.Core.Bool.{Bool, true, false, cond, _&&_}

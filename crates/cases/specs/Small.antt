@@ -1,8 +1,15 @@
 -- Small systems with K = 10 and 27 rows, which can be checked by hand.
---   Q          rows 0..6 have their one in columns 0..6, rows 17..26 in columns 7..16, octet row j in column 17 + j
---   block      ones in columns 1..17 in turn, octet row 0 a one in column 0, octet row j in column 17 + j: after 16 steps no row has a one in V
+--   ten        their shape: 27 rows and 27 columns, of which rows 7..16 are the octet rows, and V has columns 0..16 at first
+--   unit, flat a row with c in column q and zeros elsewhere; rows with a one each, in the columns of a list, one after another
+--   with       a matrix in which the entry of row x in column q is made c
+--   zeros      what the binary matrix holds in rows 7..16, which are ignored
+--   Q, Q-octets   rows 0..6 have their one in columns 0..6, rows 17..26 in columns 7..16, octet row j in column 17 + j
+--   usual      the order that Q gets: rows 0..6 for columns 0..6, rows 17..26 for columns 7..16, rows 7..16 for columns 17..26
+--   block, block-octets   ones in columns 1..17 in turn, octet row 0 a one in column 0, octet row j in column 17 + j:
+--              after 16 steps no row has a one in V
+--   solve      the defined answer to a binary matrix and octet rows, plain or wide, with room for so many operations
 --   stored     the bytes of a stored list with one operation, MulAssign 7 by 142
---   Small, small   what each of them gets
+--   Small, small   what they get, some with an entry changed, some without room; two refused calls; facts of octets; the stored list, written and read
 -- Assumes nothing.
 use mathlib.Core.Path.{_≡_, refl, ap}
 use mathlib.Core.Bool.{Bool, true, false, cond}

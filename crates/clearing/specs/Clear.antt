@@ -1,14 +1,20 @@
 -- A step's additions, as they are recorded: each row below with a nonzero in the pivot's column gets a multiple of the chosen row.
 --   binary-at, octet-at   the entry of row y in column q, of a binary matrix and of octet rows from row s on
---   multiple         c times row x for row y, c not 0
+--   multiple         c times row x for row y
+--   multiple-one, multiple-more   it is AddAssign for 1, and FMA for any other c
+--   small-multiple   it fits a word, where c is an octet and both rows are below 65536
 --   Binary           rows with a 0 or a 1 in a column
 --   Listed           a journal is another with a list of operations more
 --   listed-none, listed-then   no operation; one list after another
 --   Clearing         a loop over the rows ys, of which k are done
 --   clear-start, clear-none, clear-next, clear-one, clear-end   it begins, passes a zero, records a multiple, or the row itself, is over
+--   bit-one, bit-none   a binary entry by the code's test: it is 1 where the test holds, else 0
 --   Multiples        the same loop over the octet rows
 --   octet-start, octet-none, octet-next, octet-end   the same for it
+--   getD-range       the octet rows by place: the number at place j of those from a on is a + j
+--   octet-within     the entry of an octet row in a column lies within the octet rows' list
 --   outside          a row that may be chosen is no octet row
+--   clears-append    the additions for two lists of rows are those for the first, then those for the second
 --   cleared          binary rows, then octet rows: together the column is cleared as phase one says
 -- Assumes nothing.
 use mathlib.Core.Path.{_≡_, refl, sym, ap, ap₂, subst, _∙_}

@@ -1,7 +1,10 @@
 -- The state between the phases, as the code's slices hold it, and what each phase needs and leaves.
+--   Z, A, p, ts, os, cols, rest, X   a system's shape and matrix; phase one, its steps and operations; the columns and rows that it leaves; the
+--                    matrix of these columns, after its operations
 --   First            after phase one, where V is empty
 --   Reached          after phase two, where every column has a row
 --   rows-facts, columns-facts   rows by place are below m, columns below l, each once
+--   one-within, one-small   the rows of phase one's operations are below m; each operation fits a word
 --   prepared-is      what phase two needs
 -- Assumes nothing.
 use mathlib.Core.Path.{_≡_, refl, sym, ap, ap₂, _∙_, subst}

@@ -1,7 +1,13 @@
 -- Phases three to five as the code does them, and the two ends of a run whose V was emptied.
 --   Ending           what the last phases leave: the answer, the list and the order; there is no vector
+--   countsOf         the counts of a phase, by value
+--   over-placed, blank-room   what is written at the front of a cleared room has zeros after it; a cleared room has zeros in its first l places
+--   r, told-run      the run; what is told is its answer
+--   chosen-part, steps-within   the rows at the first i places are those that phase one chose; there are no more steps than rows
 --   Stage            the list room after some phases of such a run
+--   stage-two, stage-next, stage-three, stage-four   after phase two; after a phase more; after phases three and four
 --   marked-is, third-is, chosen-is, fourth-is, fifth-is   what each of the last phases needs and leaves
+--   listing, ordering-is   what phases three and five need of the list room; what the order needs
 --   full-ending, solved-ending   the list has passed the room, or fits
 -- Assumes nothing.
 use mathlib.Core.Path.{_≡_, refl, sym, ap, ap₂, _∙_, subst}

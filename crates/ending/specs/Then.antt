@@ -1,4 +1,5 @@
 -- Phase two's two ends, and the phases after it.
+--   two-of           the whole of phase two's list: its first part, then what clears the columns above
 --   reached-is       phase two went through
 --   Stuck, stuck-is  phase two stopped at a column without pivot: its place, and what is left
 --   run-is           where V is empty, the defined run goes on to phase two

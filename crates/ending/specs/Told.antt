@@ -2,8 +2,8 @@
 --   bitwise-at, entered-at   an entry that passed the test is 0 or 1
 --   posed-fit        a system that passed the tests is one that the definition takes
 --   told-fine, told-small   the rows of each operation lie below m, two where it reads one besides; each fits a word
---   told-words       the list's words are those of a list of m rows, and say the list
---   opsIn-told       an answer reports as many operations as the list has
+--   told-words, told-says   the list's words are those of a list of m rows, and say the list
+--   opsIn-told, opsIn-answer   an answer reports as many operations as the list has: the told one, and that of any run
 -- Assumes nothing.
 use mathlib.Core.Path.{_≡_, refl, sym, ap, _∙_, subst}
 use mathlib.Core.Logic.{_⊎_, inl, inr}

@@ -1,7 +1,9 @@
 -- The additions of a step, from slices.
+--   belowAt        the rows by place after place i, up to the octet rows
 --   stepOps        the row at place i clears the column at place i in the eligible rows after it and in the octet rows
 --   Clear          what recording them asks
 --   clear-ready    after i + 1 steps it is there
+--   ops-then       the list of a phase after one row more is chosen: those additions come last
 --   ops-next       phase one's list after a step more
 -- Assumes nothing.
 use mathlib.Core.Path.{_≡_, refl, sym, ap, ap₂, subst, _∙_}

@@ -1,7 +1,17 @@
 -- The loop of phase one, and its end.
+--   listAt         phase one's list after i steps
 --   Looping        after i steps the slices hold the definition's phase, and the list room its list
+--   loop-start, loop-next   it begins before the first step, makes a step
+--   step-clear     after a step, what recording its additions asks is there
 --   Ended          at the end
+--   ended          where no row can be chosen, phase one is at its end
+--   spent          where V has no column left, no row can be chosen
+--   ended-none     the end, after a turn that found no row
+--   ended-spent    the end, where V has no column left: the steps and the inactive columns are then all columns
 --   Outcome        what phase one's answer says
+--   turned-none, turned-some   what a turn's answer says: no row could be chosen and the state stands; one could, and the state is a step further
+--   same-cols, same-rows, same-ones, same-singles, same-labels   the slices keep their lengths from one state to another
+--   sum-fits       the steps and the inactive columns together are below 65,536
 -- Assumes nothing.
 use mathlib.Core.Path.{_≡_, refl, sym, ap, subst, _∙_}
 use mathlib.Core.List.{List, [], _∷_, _++_}

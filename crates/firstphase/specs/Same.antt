@@ -1,6 +1,5 @@
 -- Phase one reads only the rows that may be chosen: two matrices that agree there make the same choices.
 --   SameOn              two matrices have the same rows, of those in a list
---   ..-same             what the rule makes of them is the same
 --   phase-same          phase one over the combined matrix is phase one over the binary one
 --   Whole, whole        what phase one's answer says, over the combined matrix
 -- Assumes nothing.

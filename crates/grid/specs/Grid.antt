@@ -2,8 +2,15 @@
 --   bit l m x q       whether row x has a one in column q of the matrix m of l columns
 --   Under n xs        every number of xs is below n
 --   Rows l n ys       every row of ys lies within n bytes
---   Figures f xs      entry x of xs is f x
---   to-go             the list from a place on: its first, and the others
+--   Figures f n xs    xs has n entries, and entry x is f x
+--   to-go, gone       the list from a place on: its first, and the others; nothing from its end on
+--   row-within        row x of m rows lies within them
+--   Counting          n ones of row x are counted in the first k columns of v
+--   count-start, count-one, count-none, count-end   that begins, passes a one, passes a column without, is over
+--   Filled            the figures below i are in place
+--   fill-start, fill-next, fill-end   that begins, puts one more in place, is over
+--   fill-row          the row of the next figure lies within the matrix
+--   in-under          a member of a list whose numbers are all below m is below m
 -- Assumes nothing.
 use mathlib.Core.Path.{_≡_, refl, sym, ap, _∙_, subst}
 use mathlib.Core.Logic.{_⊎_, inl, inr, ⊎-elim}

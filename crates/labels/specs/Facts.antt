@@ -1,4 +1,15 @@
--- The definitions by the code's tests. Assumes nothing.
+-- The definitions by the code's tests.
+--   joint-new, joint-second, joint-first   the joint label of two columns: the next label if neither has one; the second's, or the first's, if only
+--                            that one has a label
+--   joint-less, joint-more   where both have one: the second's if it is the smaller, else the first's
+--   next-new                 the next label grows by one where neither column has a label
+--   next-second, next-first  it stays where the second, or the first, has one
+--   Part                     the loop over columns: those below c have their new labels, the others are as they were
+--   part-start, part-set, part-skip, part-end   that begins, gives a column the joint label, passes one, is over: each label is the definition's
+--   hit-p, hit-q             the test: yes for the first column of the pair, and for the second
+--   hit-none                 no for another column without a label
+--   hit-a, hit-b             for another column with a label: yes if it is the first's; if it is not, whether it is the second's
+-- Assumes nothing.
 use mathlib.Core.Path.{_≡_, refl, sym, ap, subst, _∙_}
 use mathlib.Core.Logic.{_⊎_, inl, inr, ⊎-elim}
 use mathlib.Core.Bool.{Bool, true, false, cond, not, _&&_, _||_}

@@ -2,8 +2,30 @@
 --   marksOf             the labels of a slice, and the next label
 --   zeros               how many columns have no label: each new label leaves one fewer
 --   Ready, Marked       labels are below the next one; what a function made of them
+--   pair-marked         labels that are changed column by column as a pair asks are those with the pair joined
 --   Next                the next place whose column passes a test
+--   Seeking             a search for it: the columns that pass from place k on are those that pass from place i on
+--   seek-start, seek-next, seek-hit, seek-end   it begins, passes a column, finds one, is over without one
+--   first-at, second-at   a row with two ones in v: the places found for them are within v
+--   first-next          the search for the second begins within v
+--   both-there          the row's ones in v are the columns at these two places
+--   spared-yes, spared-no   a row has no one in v where the search for one ends at the end of v, and has one where it ends before
 --   Joining             a loop over rows, of which those that pass are joined
+--   join-start, join-hit, join-skip, join-end   it begins, joins a row, passes one, is over
+--   isNoted             row y was brought down to two ones by column c, the columns cs leaving after it, by the figures in the end
+--   notedBy             the rows of ys of which this is so, for each column that leaves, in its order
+--   Right               the figures of the rows ys are their ones in C
+--   noted-no, noted-not   a row is not noted if its figure is not two, or if it has no one in column c
+--   noted-so            else it is noted exactly where it has no one in the columns after c
+--   noted-two           a row that is noted has two ones in C
+--   add-pairs-append    two lists of rows, joined one after the other
+--   Noting              a loop over the columns that leave, of which each has its noted rows joined
+--   note-start, note-next, note-end   it begins, makes a turn, is over
+--   rest-is, under-rest   the part of a list from a place on, as a slice has it; its numbers keep the bound of the list
+--   row-marked          a row whose ones are the pair is joined where the pair is
+--   ready-next          one more than the next label fits 64 bits
+--   has-label           a column of v is below the number of labels
+--   as-long             a number that is within a length is within an equal one
 -- Assumes nothing.
 use mathlib.Core.Path.{_≡_, refl, sym, ap, ap₂, subst, fun-ext, _∙_}
 use mathlib.Core.Logic.{_⊎_, inl, inr, ⊎-elim}

@@ -1,5 +1,7 @@
 -- Counted loops.
+--   up lo n f s       s after n turns from lo on
 --   forTo lo hi f s   s after f lo, f (lo + 1), .., f (hi - 1), in this order
+--   for-none, for-next   from lo to lo there is no turn; up to k + 1 there is the turn of k after those up to k
 --   At                where such a loop stands at its test: the invariant of every counted loop
 --   at-start, at-next, at-end   the loop begins, makes a turn, is over
 --   left-early        a loop that is left in a state which no later turn would change

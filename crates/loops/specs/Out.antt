@@ -1,8 +1,11 @@
 -- Steps that record operations.
 --   Out           the state that a step leaves, and the operations it records, in order
 --   done, says    a step that records nothing, and one that records one operation
+--   andThen       a step after another, its operations after those of the other
+--   pick          one of two, by a test
 --   forOut        a counted loop of such steps
 --   Run, run      a state beside the journal in which operations are noted, and a step over both
+--   at            a state and a journal, side by side
 --   run-for       a loop over both does what the loop of steps does
 -- Assumes nothing.
 use Prim.Native.Nat.{ℕ, zero, suc, _+_, _-_}

@@ -1,6 +1,10 @@
 -- Parts of a slice, in the shape in which the checker gives them.
 --   part a n m    the n entries of m from a on
 --   put a n m r   m with the row r in the place of those n
+--   length-part, getD-part   how long a part is, and its entries
+--   length-put    the length stays
+--   take-put, drop-put   what stands before the row, and after it, stays
+--   getD-put, getD-put-before, getD-put-after   an entry of the row's place is the row's; one before it or after it is m's
 -- Assumes nothing.
 use mathlib.Core.Path.{_≡_, sym, ap, ap₂, _∙_}
 use mathlib.Core.List.{List, _++_, append-assoc}

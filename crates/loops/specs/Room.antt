@@ -1,7 +1,10 @@
 -- What is kept of operations as they are recorded; and a lent room for a list of them, with a sticky count. `code` is the word of an operation.
 --   notes           a journal after a list of operations, `note` being what one operation does to it
+--   notes-append    the journal after two lists, one after the other
 --   Log             the words of the room, and the count: at most the room, or one above it once an operation found no place
+--   log, pickLog    words with a count; one of two, by a test
 --   put, puts       one operation more; a list of them
+--   put-fits, put-full   one operation more where there is room, and where there is none
 --   puts-append     lists after each other
 --   puts-fit        a list that fits stands in the room, word after word
 --   puts-over       after one that does not fit the count is one above the room

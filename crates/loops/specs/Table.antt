@@ -1,4 +1,5 @@
 -- A rule of a table, or of every number below a bound, by one test that antt computes.
+--   both, both-left, both-right   two tests pass; hence the first, and the second
 --   all n f, all-at       the test f passes at each number below n; hence at any of them
 --   every f i xs, every-at   the test f passes at each entry and its place, counted from i; hence at any place
 -- Assumes nothing.

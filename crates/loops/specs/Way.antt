@@ -1,6 +1,11 @@
 -- Loops of steps that may stop.
 --   Way           `go` with what there is so far, or `halt` at a number, after which nothing happens
+--   pickWay       one of two, by a test
+--   mapWay        a function of what there is so far, whether it goes or halts
+--   bindWay       one step more where it goes, and nothing after a halt
+--   after         a step after an outcome, its operations after those recorded so far
 --   forWay        a counted loop of such steps, which record operations
+--   lay           the state of an outcome, beside the journal in which its operations are noted
 --   runWay, run-way   the same beside a journal, which does what the loop of steps does
 -- Assumes nothing.
 use Prim.Native.Nat.{ℕ, zero, suc, _+_, _-_}

@@ -1,9 +1,11 @@
 -- The laws of the octets, for whoever does algebra with them. Each holds for all numbers, or says which are octets.
 --   Octet a, Octets v     a is an octet; every value of v is one
---   add-..                addition: a group in which each element is its own inverse
---   mul-.., one-mul, ..   multiplication: commutative, associative, distributes over addition
---   inv-..                the inverse of what is not zero
---   exchange, add-undo, mul-undo, mul-redo   what follows
+--   add-octet, mul-octet, inv-octet   the sum of two octets is one; every product and every inverse is one
+--   add-comm, add-assoc, add-zero, zero-add, add-self   addition: a group in which each element is its own inverse
+--   mul-comm, mul-assoc, mul-add, add-mul   multiplication: commutative, associative, distributes over addition
+--   one-mul, mul-one, zero-mul, mul-zero   one times an octet is the octet, zero times a number is zero, from either side
+--   inv-mul               the inverse of what is not zero, times it, is one
+--   exchange, add-undo, mul-undo, mul-redo   what follows: a sum of four, the middle two exchanged; an addition and a multiplication undone
 -- Assumes nothing.
 use mathlib.Core.Path.{_≡_, sym, ap, _∙_}
 use mathlib.Core.Logic.{_≢_}

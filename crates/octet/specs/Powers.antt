@@ -1,6 +1,7 @@
 -- Powers of octets; the inverse, which is the 254th power, and quotients.
 --   power-zero, power-suc, power-add, power-mul, power-twice, power-one, power-swap, power-lt   powers, by their exponents
 --   powers n x           x, 2 x, 4 x, .., n of them
+--   either               one of two tests holds, or both
 --   power-of-two         every octet but zero is a power of 2
 --   power-255            and its 255th power is 1
 --   inverse-power, inverse-lt, mul-inverse   the inverse is the 254th power, an octet, and what its name says

@@ -2,6 +2,7 @@
 --   add-zero-l, add-zero-r, add-self, add-comm, add-assoc, add-lt   the laws of a group; the sum of two octets is one
 --   add-swap, add-cancel           what follows
 --   add-step, add-half, add-odd    the sum digit by digit
+--   odd-lt                         the last digit of a number is below 2
 --   add-mod, add-shr, add-double   the sum of the low digits, of the high digits, of doubles
 --   Additive f                     f of a sum is the sum
 --   at-zero                        such an f is 0 at 0

@@ -1,15 +1,34 @@
 -- The labels of columns before the first step: the pairs of V are joined, from the top; then a component's label is one more than its least column.
 --   isTwo               a row that has two ones, by the figures
+--   two-yes, two-no     the test, where the figure is two and where it is not
+--   each-place, in-place   what holds at each place of a list holds of its members; an entry is a member
 --   twos-are            such rows are those of the rule
---   Blank, blank-ready  a slice without labels
+--   blank, blank-ready  a slice without labels: no column has one, and the next label is 1
+--   zeros-few           no more columns lack a label than there are columns
 --   Outside             columns that have no label
 --   outside-pairs       pairs of V leave the columns outside V so
+--   pairs-alike         two matrices that agree on the rows have the same pairs
 --   leastOf             one more than the least column below c that has the label a, 0 if there is none
+--   least-is            it is the rule's number of the first of those columns
+--   least-here, least-other   with column c too: where it has the label, and where it has another
+--   least-low           it is at most c
+--   by-least-none, by-least-some   the rule's number of a column: 0 without a label, else what is seen of its label there
+--   by-least-low        it is at most the number of columns
 --   seen                what the room holds of a label at column c
+--   Seen                what a turn does to the room: the entry of label a becomes what is seen of it at column c
+--   seen-new, seen-old  such a turn where the label was not seen before, and where it was
 --   Given               what the labels are made from: rows and columns within the matrix, figures that are right, room
+--   under-range         the columns from 0 on, at most l of them, are below l
+--   given-columns, given-long   the columns of V are below l; there is a label for each of l columns
+--   two-ones            a row whose figure is two has two ones
+--   given-upto, given-low, given-outside   with the pairs joined: each column of V has its place in the labels, each label its place in the room, and
+--                       columns outside V have no label
 --   FirstMarked         the labels before the first step, each below the next label
+--   given-marked        with the pairs joined and each label a number, the labels are so
 --   Numbering           the columns below c have their numbers
+--   number-in, number-at   the label of column c is within the room, and the column within the labels
 --   number-start, number-none, number-next, number-end   that begins, passes a column without label, makes a turn, is over
+--   Numbered            each label is one more than the least column that has it
 -- Assumes nothing.
 use mathlib.Core.Path.{_≡_, refl, sym, ap, ap₂, subst, fun-ext, _∙_}
 use mathlib.Core.Logic.{_⊎_, inl, inr, ⊎-elim}

@@ -1,9 +1,11 @@
 -- What phase one begins from, in slices.
 --   shape               a shape from its numbers
 --   Lent, Figured       what the figures are made from, and what they are, for the eligible rows e and the columns v of V
---   lent-given, lent-right, figured   the labels' part of it; the parts put together
+--   lent-columns, lent-rows   the columns of V are below l; each eligible row has a figure
+--   lent-given          the labels' part of it
 --   Opens               the lengths of the slices, by the shape
 --   Opened              each slice as phase one begins
+--   rows-low, rows-apart   the rows that may be chosen are below the number of rows, none twice
 --   opens-columns, opens-rows, opens-lent, opened   V and the eligible rows as parts of their slices; what the figures ask; the whole
 --   opened-figure       an eligible row's figure
 --   opened-state, begins    they are the definition's first state

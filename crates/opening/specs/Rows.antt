@@ -1,8 +1,10 @@
 -- The order of columns and rows before the first step.
---   length-range, getD-range     the numbers from a on, by place
+--   getD-range                   the numbers from a on, by place
 --   rowsAtFirst m s h            m rows by place, of which the h from row s on are octet rows
 --   rows-at-first                they are the definition's, those that may be chosen and then the octet rows
 --   number-at                    a loop that writes each place's number
+--   Laying                       of m rows, j of the octet rows, from row s on, have changed places with those from row b on
+--   lay-start, lay-next, lay-end   that begins, has one exchange more, gives the definition's rows when all octet rows are exchanged
 --   Exchanging                   j octet rows are exchanged, one by one, with the last rows
 --   exchange-start, exchange-next, exchange-within, exchange-end   that begins, makes a turn, stays within the rows, is over
 -- Assumes nothing.

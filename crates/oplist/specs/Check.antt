@@ -1,6 +1,7 @@
 -- The checks on a list and an order. m is the number of slab rows, l that of columns.
 --   mostRows, mostOps   the most rows of a slab, and the most operations of a list
 --   shapeFine    at least one column, no more columns than rows, rows and operations within those bounds
+--   twoRows      two rows below m, not the same
 --   opFine       rows of an operation that are below m, and dest not src in AddAssign and FMA
 --   wordFine     the same of a word, which is of a known kind
 --   listFine     the same of every word of a list
@@ -8,6 +9,7 @@
 --   rowsFine     entries below m, none twice
 --   orderFine    l entries below m, none twice, where there is an order; a list without one passes
 --   undoable     no MulAssign by zero
+--   opUndoable   the same of one operation
 --   wordUndoable the same of a word
 -- What a test that passed says is in Facts.
 -- Assumes nothing.

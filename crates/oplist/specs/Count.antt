@@ -2,6 +2,7 @@
 --   addsIn, mulsIn      of one operation
 --   adds, muls          of a list
 --   wordAdds, wordMuls  of one word of a room; an unknown kind asks for nothing
+--   addsIn-one, mulsIn-one, wordAdds-one, wordMuls-one   an operation, and a word, asks for at most one of each
 --   adds-append, muls-append   of lists joined
 --   adds-drop, muls-drop       of words left from a place on
 --   adds-next, muls-next       a loop that counts makes a turn

@@ -1,4 +1,5 @@
 -- What a check that passed says, and that it passes where that holds.
+--   never                           were false true, anything would follow
 --   and-left, and-right, and-both   of two tests
 --   Shape                           the bounds on rows, columns and operations
 --   shapeFine-shape, shape-shapeFine   the check of a shape is just that
@@ -6,6 +7,8 @@
 --   opFine-fine, fine-opFine        the check of an operation is just that
 --   listFine-known, listFine-each   a list that passed has known words, whose operations are fine
 --   each-listFine                   known words of fine operations pass
+--   Rows                            entries below m, none twice
+--   rowsFine-rows, rows-rowsFine    the check of entries is just that
 --   Order                           l entries below m, none twice
 --   orderFine-order, order-orderFine   the check of an order is just that
 --   undoable-each, each-undoable       the check for undo is just that no MulAssign is by zero

@@ -1,4 +1,5 @@
 -- The list of operations that the words of a room say.
+--   isKnown, withOp           whether a word is of a known kind; its operation, if it is, before others
 --   known                     each word is an operation's
 --   opsOf                     the operations, in order; a word of an unknown kind says none
 --   opsOf-append, opsOf-drop, opsOf-take   of words joined, left from a place on, and up to a place

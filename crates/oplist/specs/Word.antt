@@ -2,9 +2,11 @@
 --   word                             a word from its fields
 --   kindOf, scalarOf, destOf, srcOf  the fields of a word
 --   packed                           the word of an operation: kind 1, 2, 3 for AddAssign, MulAssign, FMA, a field that it lacks zero
+--   pickWord                         one of two, by a test
 --   meaning                          the operation of a word; a word that is no operation's is an unknown kind
 --   Small                            an operation's fields fit their places in a word
 --   Fields, fields                   the fields of a word that was made from fields which fit
+--   Packs                            a word is an operation's, and the operation's fields fit
 --   meaning-packed, packed-meaning   each undoes the other
 --   small-within                     rows below 65,536 and an octet as scalar fit
 --   packed-small, packed-one         the word of an operation fits 64 bits; two operations have two words

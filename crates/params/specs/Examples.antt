@@ -1,4 +1,8 @@
 -- The worked examples of the parameters: K = 10; the last K whose L is within the bound, and the first that is refused.
+--   ten           the answer for 10
+--   last          the answer for 217
+--   too-long      218 is refused, its L being above the bound
+--   above-table   56,404 is refused, being above each row of the table
 -- Assumes nothing.
 use mathlib.Core.Path.{_≡_, refl}
 use Rattle.params.specs.Table.{table}

@@ -1,9 +1,11 @@
 -- The parameters of a source block of k symbols (RFC 6330, 5.3.1, 5.3.3.3 and 5.6), what `params` answers.
 --   mostRows     the most rows that a system may have
+--   Entry, pick  a row, or none; one of two, by a test
 --   first k t    the row of t for k, an Entry
 --   lengthOf r   L of a row;  sizes r   all its figures
 --   answer e     what an entry answers;  paramsOf k   what k is answered
 --   number a     the number of an answer;  refusalOf k   the number that k is answered with
+--   entryRefusal e   the number that an entry is answered with
 --   Answered     the promise of `params`
 -- Assumes nothing.
 use mathlib.Core.Path.{_≡_}

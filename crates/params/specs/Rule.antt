@@ -5,6 +5,7 @@
 --   table-ruled   the table passes it
 --   Right r       what holds of the figures of a row
 --   right-at      every row of the table is right
+--   rowAt t i     the row at a place of t; zeros from its end on
 --   rises-at      of two rows of the table the later has the larger K'
 --   ruled-right, ruled-above   the same of any rows that pass the test;  ruled-rest   so do those after the first
 --   rows          the table has 477 rows

@@ -1,5 +1,6 @@
 -- Table 2 of RFC 6330, 5.6.
 --   Row     a row of the table: K', J(K'), S(K'), H(K'), W(K')
+--   row     a row from its figures
 --   table   its 477 rows
 -- Assumes nothing.
 use mathlib.Core.List.{List, [], _∷_}

@@ -5,6 +5,7 @@
 --   singular-nulled     Singular: the vector is not all zeros, and the whole matrix sends it to zeros
 --   singular-never      hence no list of operations reduces the matrix
 --   no-pivot-blank      NoPivot: no eligible row has a nonzero in V
+--   Decided             an end with an order or with a vector
 --   wide-decides        a wide run is never without a pivot
 --   blind               the answer has nothing of the symbols
 -- Assumes nothing.

@@ -1,9 +1,11 @@
 -- How long the defined list can be, so that rooms can be planned.
 --   ramp a k, tri k   (a - 1) + (a - 2) + .., k terms; 0 + 1 + .. + (k - 1)
 --   cost              the most that m rows and n columns can cost where phase one takes i steps
+--   later             the part of that cost which is not clearing below: the rest of phase two, and phases three to five
 --   longest           the most for a shape
+--   steps-few         phase one takes no more steps than V has columns at first
 --   list-cost         the list of a run is no longer than its cost
---   list-longest      and no longer than the longest of its shape
+--   list-longest      and no longer than the longest of its shape, where V has at least three columns at first
 --   largest           the longest list of 256 rows and 256 columns, 233 of them in V at first
 -- Assumes nothing.
 use mathlib.Core.Path.{_≡_, refl, sym, ap, _∙_, subst}

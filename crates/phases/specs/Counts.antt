@@ -1,5 +1,6 @@
 -- The counts of an answer.
---   added, multiplied   how many operations of a list are additions, and multiplications
+--   added, multiplied   the operations of a list that are additions, and those that are multiplications
+--   adds-are, muls-are  the counts of a list are how many these are
 --   counts-are          each phase's count is that of its part of the list
 --   counts-sum          together they are those of the whole list
 --   counts-none         they are zeros unless the answer is Solved

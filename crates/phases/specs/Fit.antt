@@ -2,7 +2,7 @@
 --   Fit                     every entry is an octet, eligible rows are binary, and the rows and columns fit
 --   all-rows                the rows by place at first
 --   rows-occ, rows-once, rows-below   they are 0 .. m - 1, once each
---   cols-occ, cols-once     the columns are 0 .. n - 1, once each
+--   cols-occ, cols-once, cols-below   the columns are 0 .. n - 1, once each
 --   less?                   a number is below another or not
 -- Assumes nothing.
 use mathlib.Core.Path.{_≡_, refl, ap, _∙_}

@@ -1,6 +1,8 @@
 -- The definition's phase two is an elimination: each column gets the first row with a nonzero, or ends it.
 --   works-snoc, ops-two-snoc   one column more
+--   clears-alike    clearing depends only on the multiples of the rows that it clears
 --   Stage           phase two after some columns
+--   given-stage     a column that gets the first row with a nonzero leads to the next stage
 --   Ended           how it ends: all columns, or stuck at one that has no nonzero left
 --   forward-ended   the definition ends so
 -- Assumes nothing.

@@ -3,6 +3,7 @@
 --   dot-weigh                the product of a row and the vector
 --   Apart, chosen-apart      each chosen row has zeros at the columns of later ones
 --   Halt                     a run that stops at a column without pivot
+--   vs                       its vector: 1 at that column, and at each step's column what its row makes of those after it
 --   singular                 what its vector is
 -- Assumes nothing.
 use mathlib.Core.Path.{_≡_, refl, sym, ap, ap₂, _∙_, subst, fun-ext}

@@ -1,7 +1,12 @@
 -- What the defined run means, plain and wide: Solved reduces the matrix, Singular shows a vector that is sent to zeros, NoPivot leaves no nonzero in V.
 --   Nulled       a vector, not all zeros, that the whole matrix sends to zeros
+--   Blank        no eligible row has a nonzero in what is left of V, as it was given and after the list
 --   Says         what each end of a run says
 --   means        the defined run says it
+--   walk, ended  what is known of phase one at its end, and how the first part of phase two ends
+--   two-is, three-is   where every column got a row: the lists of phases two and three are those by step
+--   course       and the run is a course: legal steps that give every column a row
+--   getD-by-column   an entry of a list by column is what stands beside the column
 -- Assumes nothing.
 use mathlib.Core.Path.{_≡_, refl, sym, ap, ap₂, _∙_, subst}
 use mathlib.Core.Bool.{Bool, true, false, cond}

@@ -1,8 +1,10 @@
 -- How often a number stands in a list: permutations, membership and distinctness as equations and bounds that `omega` reads.
 --   tick, occ           1 or 0; how often y stands in l
+--   tick-eq, tick-ne    1 for equal numbers, 0 for others
 --   Member l y, Once l  y stands in l; no number stands in l twice
 --   Same?, same?        two numbers are equal or not
 --   occ-append, occ-without, occ-range   joined lists, the chosen row's exchange with the first, ranges
+--   Range               what is said of a range: each of its numbers stands in it once, and no other
 --   in-member, member-in, once-nodup, nodup-once   the same as `In` and `Nodup` of the rule
 -- Assumes nothing.
 use mathlib.Core.Path.{_≡_, refl, sym, ap, subst}

@@ -1,9 +1,14 @@
 -- Phase one (RFC 6330, 5.4.2.2), over the matrix A as it was given. V never changes, so the choices and the list are functions of A.
 --   Step             a row chosen, its column, and what then is left
+--   rows-of, pivots-of   the rows of steps, and their columns
 --   Phase            phase one so far: d is the steps' rows, the eligible rows and the octet rows; c is the steps' columns, V and the inactive columns
+--   one              row x has a one in column q
+--   degree           the original degree of a row: its ones in V before the first step
 --   begin, step      before the first step; one step, or nothing where no row can be chosen
+--   taken            row x is chosen: the step is added, its column leaves V, and the columns of its other ones in V become the first of the inactive ones
+--   taking           the same for a choice, and nothing where there is none
 --   phase-after k, phase-one   after k steps, and at its end
---   entry, clears    the operations that clear a column with a row
+--   entry, clears    the operations that clear a column with a row: in one row none for 0, AddAssign for 1, else FMA; and in rows, from the top
 --   ops-one          phase one's list
 -- Assumes nothing.
 use mathlib.Core.Bool.{Bool}

@@ -1,4 +1,6 @@
 -- The first places, computed: the octet rows are exchanged with the last rows, one by one, and not moved past them.
+--   exchanged   of six rows, the second and the third being octet rows: the rows that may be chosen, by place
+--   last        and the octet rows, which stand behind them
 -- Assumes nothing.
 use mathlib.Core.Path.{_≡_, refl}
 use mathlib.Core.List.{[], _∷_}

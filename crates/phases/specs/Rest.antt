@@ -1,8 +1,15 @@
 -- Phases three to five (RFC 6330, 5.4.2.4 to 5.4.2.6), which need no matrix but A; the order; the vector of a Singular answer.
---   kept              phase one's additions among the chosen rows: phase five, and phase three with the last one first
+--   has               a number stands in a list
+--   kept              phase one's additions among the chosen rows: phase five, and phase three with the last one first;
+--                     they are the operations of its list that write a chosen row
+--   keep-op           an operation in front of a list, or the list alone, by a truth value
+--   last-first        a list of operations from its last to its first
 --   gather, phase-four   each chosen row gets the rows in whose columns it has a nonzero
 --   by-column         a list by place, put in the order of columns: the order of a Solved answer, and the vector of a Singular one
---   weigh, values, by-substitution   the vector, by place
+--   beside            what stands beside a column, in two lists by place; 0 where nothing does
+--   weigh             two lists multiplied, entry by entry, and summed
+--   values            the vector on phase two's columns, by place: 1 at the column without pivot, and before it what each row makes of those after it
+--   by-substitution   the vector, by place: what the chosen rows make of these values, and then these values
 -- Assumes nothing.
 use mathlib.Core.Bool.{Bool, true, false, cond, _||_}
 use mathlib.Core.List.{List, [], _∷_, _++_, map}

@@ -1,9 +1,18 @@
 -- The defined run: for every system the five lists and how it ends; and the answer to a call with room for a list.
 --   End, Run, whole   how a run ends, its lists by phase, and its list
+--   solved, no-pivot, singular   the ends: all phases done, with the order; no pivot in phase one; a column without pivot in phase two, with the vector
+--   second, finish    the run that goes on to phase two: from the end of phase one, and from how the first part of phase two ends
+--   refused           the run that ends without a pivot after phase one
+--   goes-on           whether phase two comes: no column is left in V, or the run is wide
 --   defined           the run of a system, plain or wide: wide goes on where phase one finds no pivot
 --   counts            the additions, or the multiplications, of each phase's part
+--   no-counts         a zero for each phase
 --   Answer            an answer's number and values: 0 Solved, 5 ListFull, 6 NoPivot, 7 Singular
---   answer            the answer to a call with room for so many operations
+--   Solved            the answer with the list, the order and the counts
+--   Refused           an answer with a number and a vector, and else nothing
+--   ListFull, NoPivot, Singular   the refusals; only Singular has a vector
+--   ending            the answer by how the run ends, where there is room for its list
+--   answer            the answer to a call with room for so many operations: ListFull where the list is longer, else by how the run ends
 -- Assumes nothing.
 use mathlib.Core.Bool.{Bool, true, cond}
 use mathlib.Core.List.{List, [], _∷_, _++_}

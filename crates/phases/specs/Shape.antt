@@ -7,6 +7,7 @@
 --   Identity 5.4.2.6: every column is the unit of its row
 --   first-shape   the matrix has the first shape after any number of steps of phase one
 --   Shapes, shapes   and each shape after its phase, where the run is solved
+--   course-shapes    the same for any legal steps that give every column a row, where the lists are those by step
 -- Assumes nothing.
 use mathlib.Core.Path.{_≡_, refl, sym, ap, ap₂, _∙_, subst}
 use mathlib.Core.Bool.{Bool, true, false, cond}

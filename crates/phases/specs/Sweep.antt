@@ -1,6 +1,6 @@
 -- Phase one as elimination: what any legal sequence of steps does to the matrix. Ties do not enter here.
 --   Every, every-map, every-both   a property of every step
---   last-rows, last-cols, ..-snoc  the rows that are left, what is left of V; one step more
+--   last-rows, last-cols, last-rows-snoc, last-cols-snoc   the rows that are left, what is left of V; one step more
 --   Entries, runs-entries          every entry is an octet, also after operations
 --   Fair, Legal, legal-snoc        a step that elimination allows; a sequence of them
 --   rows-kept, cols-kept, inside   the rows are those chosen and those left; columns likewise, and each step's row and column are among them

@@ -1,8 +1,12 @@
 -- Phase two (RFC 6330, 5.4.2.3): Gaussian elimination of the rows that were not chosen, octet rows last, on the columns that are left.
 -- The matrix is a list of its rows by slab row, each with those columns by place.
 --   at, act, acts     an entry; one operation on the matrix, and a list of them
+--   sums, made        two rows added, entry by entry; the row that an operation makes
 --   working           the matrix of A's columns `cols`
---   Second            phase two so far
+--   scaled            a row is divided by its entry c: no operation where that is 1, or 0
+--   column-ops        row y gets a one in column k, and the column is cleared with it in other rows, from the top
+--   Second            phase two so far: the columns that got a row, the rows that have none, and the matrix as it stands
+--   given, giving     the kth column gets row y; the same for a row that was found, and the end where none was
 --   turn, forward     the kth column gets a row, or ends it; all columns
 --   backward          the columns cleared above, the last one first
 -- Assumes nothing.

@@ -1,5 +1,7 @@
 -- The vector by place is the vector by step.
 --   vals-of           the values of a vector
+--   length-vals       they are as many as its columns
+--   chain-cols-are    its columns are those of the steps, and then the one without pivot
 --   beside-value      the value beside a column
 --   values-is         phase two's columns, by substitution from the column without pivot
 --   substitution-is   and the chosen rows' columns

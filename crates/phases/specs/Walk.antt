@@ -1,7 +1,13 @@
 -- The definition's phase one: a legal sequence of steps, in which every choice is one that the rule makes, and which ends where no row can be chosen.
+--   arranged-occ, arranged-fewer   the column rule, as counts: V is the step's column, those that go and those that stay; fewer stay
 --   Walked            what is known of phase one after any number of steps
 --   walked            it is known after each of them
 --   walked-end        and at the end
+--   begin-walked, taken-walked, step-walked   it is known before the first step, after a row is taken, and after a step
+--   permitted         where it is known, the row chosen next is one that RFC 6330 permits
+--   cut-arranged, rows-split, cols-split   then the column rule holds, and no row is lost, and no column
+--   none-exactly      no row can be chosen exactly when no eligible row has a one in V
+--   none-zeros        and then no eligible row has a nonzero there
 --   stopped           at the end no row can be chosen
 --   zeros             and no eligible row has a nonzero in what is left of V
 -- Assumes nothing.

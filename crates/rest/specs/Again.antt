@@ -9,9 +9,12 @@
 --   logged-joined    the lists of two phases stand in the room one behind the other
 --   listing-is       and what is needed holds
 --   Noting           a phase so far: the journal at first with a list noted since the counts began anew
+--   noting-start, noting-word, noting-next   nothing is noted yet; a word of the first n can be read; what it asks for is noted too
 --   Rising, Falling  phase five has come to a word; phase three has the words before one left
 --   word-unknown, word-noted, word-left, word-marked, word-small   what one word asks for
---   rising-start, rising-word, rising-next, rising-length, rising-done, and the same of falling    the loop begins, reads a word, makes a turn, keeps the room's length, is over
+--   rising-start, rising-word, rising-next, rising-length, rising-done   phase five's loop begins, reads a word, makes a turn, keeps the room's
+--                    length, is over
+--   falling-start, falling-word, falling-next, falling-length, falling-done   and so phase three's loop
 -- Assumes nothing.
 use mathlib.Core.Path.{_≡_, refl, sym, ap, ap₂, subst, _∙_}
 use mathlib.Core.Bool.{Bool, true, false}

@@ -2,6 +2,7 @@
 --   placed l c xs o      the room o whose first l entries are xs in the order of columns: entry c[p] is xs[p]
 --   Blank l o            the first l entries of o are zeros
 --   Ordering             what the order needs
+--   length-by-column, getD-by-column   a list by column: it has an entry for each column, which is what stands beside the column
 --   length-placed        the room keeps its length
 --   placed-is            its two parts: the definition's `by-column`, and the rest of the room
 --   by-column-take       more entries than columns don't count

@@ -7,6 +7,7 @@
 --   fourth-is          for the steps of phase two, and any matrix that has the same entries there: the definition's list
 --   One, one-noted, one-left   what one entry needs; it is a one, or it is not
 --   Left               a journal that is a list short of where it goes
+--   left-start, left-some, left-end, left-length   the whole list is left; some of it is noted; none is left; the room has its length already
 --   Passing, passing-start, passing-one, passing-next, passing-length, passing-end   a row has what it gets up to a place
 --   Choosing, choosing-start, choosing-row, choosing-next, choosing-length, choosing-done   the chosen rows up to a place have what they get
 -- Assumes nothing.

@@ -1,4 +1,5 @@
 -- Which rows are chosen, as one mark a row; and the operations that write a marked row.
+--   flag               1 for true, 0 for false
 --   flagOf xs x        1 for a row x of xs, else 0
 --   keptBy ms os       those of the operations os that write a row whose mark in ms is 1
 --   figures-mark       one row more is marked

@@ -1,6 +1,7 @@
 -- The vector of a Singular answer, from the working store.
 --   looked v cs        the entries of v at the columns cs
 --   start i e          the later of two places: the value of the place before e is made from there on
+--   start-most         it is at least e, and no more than any bound of both
 --   valued             the values by place: 1 at the column without pivot, the rest by substitution
 --   valued-is          the definition's `by-substitution`
 --   Singular           what is needed of the store, the columns and rows by place, and the place q of the column without pivot
@@ -9,7 +10,8 @@
 --   looked-placed      values that are in the vector are found there
 --   Valuing, Weighing, valuing-part, valuing-value   what one row needs, and its part beside its columns
 --   Weighed, weighed-start, weighed-next, weighed-end   the products from a place on are summed: a loop from the last place to the first
---   Substituting, substituting-start, substituting-column, substituting-value, substituting-next, substituting-done   the values from a place on are in the vector
+--   Substituting, substituting-start, substituting-column, substituting-value, substituting-next, substituting-done   the values from a place on
+--                      are in the vector
 -- Assumes nothing.
 use mathlib.Core.Path.{_≡_, refl, sym, ap, ap₂, subst, _∙_}
 use mathlib.Core.Bool.{Bool, true, false, cond}

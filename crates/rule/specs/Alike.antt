@@ -1,5 +1,6 @@
 -- What is permitted depends only on the eligible rows' entries in V.
 --   Alike              two matrices have the same ones in the rows of E and the columns of C
+--   filter-alike       tests that agree on the members of a list keep the same ones
 --   ones-alike, count-alike   then a row of E has the same ones
 --   permitted-alike    and the same choices are permitted
 -- Assumes nothing.

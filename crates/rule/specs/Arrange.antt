@@ -1,6 +1,6 @@
 -- The column rule: the same columns, a one of the chosen row in front, no one of it between.
---   num, bit                how many members pass a test
---   num-cons, num-rev, bit-true, bit-false
+--   num, bit                how many members pass a test; 1 or 0
+--   num-cons, num-rev, bit-true, bit-false   one member more, and the list reversed; the 1 and the 0
 --   cut-arranged, arranged  the column rule is an arrangement
 -- Assumes nothing.
 use mathlib.Core.Path.{_≡_, refl, sym, ap, subst, _∙_}

@@ -2,9 +2,12 @@
 --   In x l          x stands in l
 --   Nodup l         no number stands in l twice
 --   filter p l      the members that pass the test, in their order
+--   keep            a number in front of a list, or the list alone, by a truth value
 --   head l          the first, if there is one
 --   headLeast k l   the first of least key, if there is one
+--   leastFrom       the first of least key, of a number and the list behind it
 --   leastPos f l    the least positive value of f on l, 0 if there is none
+--   lesser          the lesser of two numbers, where 0 counts as none
 -- Assumes nothing.
 use mathlib.Core.Path.{_≡_}
 use mathlib.Core.Logic.{_⊎_}

@@ -1,12 +1,29 @@
 -- How phase one chooses, with every tie. The matrix never moves: rows and columns keep their numbers, and only lists of them change their order.
 -- C lists V's columns and E the eligible rows, both by place; `row x q` says whether row x has a one in column q of the original matrix.
 --   Marks, addPair, addPairs    the labels of columns, which stand for the components, and pairs joined to them
---   choose                      the row rule
---   swapRemove, nextSingles     the rows with a single one, in their order, through a step
---   noted                       the rows that a step brings down to two ones
---   without                     the rows that stay eligible
---   Cut, arrange                the column rule
+--   joint, nextLabel            the label that both columns of a pair get: the smaller of theirs, the only one, or a new one; the next new label then
+--   touched, relabel            a column is one of the pair, or has the label of one of them; the labels then: such a column gets the pair's
+--   choose, chooseAt            the row rule, with r the least positive number of ones that an eligible row has in V; and for a given r
+--   size, bigger, biggest       r = 2: how many columns of V have a label; the label of greater size, of two and of all; on a tie the first, the smallest
+--   node, atNode                r = 2: the leftmost column of V with that label; the first eligible row by place with a one there and two ones in V
+--   swapRemove, nextSingles     the rows with a single one, in their order: one is taken out and the last takes its place; and through a step
+--   lastFirst, bring            a list with its last member in front; a number put behind the first of a list
+--   lose, loseFirst             a row lost a one and has k left: out at none, in as the last at one; the same for the chosen row's first one, but never in
+--   loseCol, loseCols           a column leaves V, and columns do one after another: each row with a one there loses it, from the top
+--   refresh, refreshAll         a row is taken out, and put in as the last if it has a single one; this for every row with a one in a column
+--   finish                      the last part of a step: where columns besides the pivot go, the rows with a one at the pivot are refreshed
+--   noted                       the rows that a step brings down to two ones and no further, in the order in which it does
+--   without, replace            the rows that stay eligible: the chosen one is exchanged with the first, and left out; a number put in the place of another
+--   Cut, arrange                the column rule: the step's column, the others that leave V, and what is left of it
+--   cut                         the same from V in three parts: the first column, the middle, and the last ones
+--   found, put                  the first member of a list that passes a test is exchanged with m: what comes out, m if none does; what the list is then
+--   lacks                       the opposite test
+--   swept, filled               each member of M that passes is exchanged with the first of R that does not: what M is then, and what R is
+--   rev                         a list from its last member to its first
 --   State, start, chosen, after phase one's state at first, its choice, and what a choice makes of it
+--   firstSingles                the eligible rows with a single one at first, by place
+--   rawMarks, firstMarks        the labels after the pairs of V are joined, from the top; the labels at first: by byLeast, the next new one w + 1
+--   byLeast, numberOf           a column's label by its component: one more than its first column in C, 0 without a label; one more than a column, 0 for none
 -- Assumes nothing.
 use mathlib.Core.List.{List, [], _∷_, _++_}
 use mathlib.Core.Bool.{Bool, cond, not, _&&_, _||_}

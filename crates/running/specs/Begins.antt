@@ -1,4 +1,5 @@
 -- Phase one's two ends, as the code's slices hold them.
+--   unused, fair-unused   nothing recorded yet; a journal with nothing recorded is fair
 --   given-is, lent-is   what phase one needs
 --   first-is         V was emptied
 --   first-full       the list has passed the room

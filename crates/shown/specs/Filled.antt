@@ -1,8 +1,11 @@
 -- The text of an answer, from the rooms that reading filled.
+--   Holds         n words, each of them an operation's, and the order, where there is one, are in the rooms
 --   Filled        the rooms hold as much as the answer says
 --   roomText      the text of what they hold, or of the refusal
 --   Shown, read-shown   after reading, that is the text of the form
 --   Screen, showing     the text room and both other rooms after showing a form
+--   screen, same-screen   an outcome from its three rooms; rooms that are equal make equal outcomes
+--   pickScreen          one of two outcomes, by a test
 --   show-once           two outcomes that meet the statement are the same
 -- Assumes nothing.
 use Prim.Native.Nat.{ℕ, _≤_}

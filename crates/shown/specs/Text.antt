@@ -1,7 +1,18 @@
 -- A stored list as text: its shape, a line for each operation, and its order or the lack of one; or a refusal by its number. Bytes are ASCII.
+--   rowsWord, columnsWord, operationsWord   the words of the shape, `rows`, `columns` and `operations`, with the spaces about them
+--   addWord, mulWord, fmaWord               the words of an operation, `add`, `mul` and `fma`, with a space after each
+--   orderWord, refusedWord                  the word `order`; the word `refused`, with a space after it
+--   noneLine       the line `order none`, where there is no order
+--   space, newline a space; the end of a line
+--   pickText       one of two texts, by a test
+--   digitAt        the digit at a power of ten, or no text where the number is below that power
 --   decimal        a number below ten million in decimal digits, with no zero in front
+--   named          a word, then a number
 --   opText         the line of an operation: its kind, dest, then src and scalar where it has them
+--   opsText        the lines of operations, one after another
+--   entriesText    the entries of an order, a space before each
 --   orderText      the line of an order, or of none
+--   shapeText      the line of the shape: how many rows, columns and operations
 --   listText       the text of a list
 --   refusedText    the text of a refusal
 --   mostBytes      the most bytes of a form that is shown

@@ -1,4 +1,14 @@
--- `swapRemove` by places. Assumes nothing.
+-- `swapRemove` by places: the rows with a single one at the front of a slice, of which one is taken out, put in, or both.
+--   Kept                    the slice is as long as it was, and its first r entries are the list l
+--   absent, present         `swapRemove` of a number: it is not in the list, which stays; it is, first at place k, and the last number comes there
+--   kept-out, kept-same     the slice, where the number is found and taken out, and where it is not found
+--   kept-put, kept-all      the slice with a number more after the first n; the slice as it is
+--   lose-out, lose-in, lose-not   `lose` by the number of ones that is left: none, one, more
+--   first-out, first-not    `loseFirst` by it: none, some
+--   refresh-in, refresh-not `refresh` by it: one, so the row is taken out and then put in; any other number, so it is only taken out
+--   Picking                 where a loop stands that puts the members of e that pass into a slice: k of e are done, and n are put in
+--   pick-start, pick-in, pick-skip, pick-end   it begins, puts one in, leaves one out, is over;  pick-room   there is room for one more
+-- Assumes nothing.
 use mathlib.Core.Path.{_≡_, refl, sym, ap, subst, _∙_}
 use mathlib.Core.Bool.{Bool, true, false, cond}
 use mathlib.Core.List.{List, [], _∷_, _++_, append-assoc, append-nil}

@@ -1,9 +1,24 @@
 -- The row figures: how many ones of V each row has left, and the rows with a single one in their order.
 --   Fig, fig             the figures, and those in two lent slices of which the second has n entries in use
+--   each                 a change for each row of a list that passes a test, from the top
 --   loseOne, dropCol, dropCols   a row loses a one; a column leaves V; columns leave V one after another
 --   firstLoss, renew, shrunk     the chosen row's first loss; rows taken out and put in again; a whole step
+--   renewOne, renewed    one row taken out, and put in again if it has a single one; `renew`, if columns besides the pivot leave V
 --   Held, Sound          the rows of the list have a single one, none of them twice
+--   room-left, absent    a row that is not in the list has a place there; a row whose count is not one is not in the list
+--   lose-held, first-held, renew-held   the list stays so: where a row loses a one, at the chosen row's first loss, where a row is renewed
 --   Done                 the slices went from one state to what g makes of it
+--   then                 one such change, and then another
+--   lose-room, renew-room   there is room for the row that is put in
+--   lose-done, first-done, renew-done   the change of a row, by what the slice of the list then holds
+--   Going                where a loop over the rows ys stands: k of them are done
+--   going-start, going-hit, going-skip, going-end   it begins, changes a row, skips one, is over;  at-row   the next row has a figure
+--   Leaving              where a loop over the columns qs stands: k of them have left V
+--   leaving-start, leaving-next, leaving-end   it begins, makes a turn, is over;  leaving-under   the rows have figures
+--   step-one, step-more  a step, by its parts: only the pivot leaves V; other columns leave it too
+--   head-each, tail-each what holds of each number of x ∷ ys holds of x, and of each of ys
+--   rows-tail, under-tail, under-head   so with rows that lie in the matrix, and with numbers below n
+--   under-still          numbers below n are below a number equal to n
 -- Assumes nothing.
 use mathlib.Core.Path.{_≡_, refl, sym, ap, ap₂, subst, _∙_}
 use mathlib.Core.Logic.{_⊎_, inl, inr, ⊎-elim}

@@ -1,6 +1,9 @@
 -- A step over the figures does what the definition says, where the figures are the rows' ones in V.
 --   Agree            the figures of the rows ys are f
 --   Dropped, dropped, dropped-all   a column leaves V; columns leave it one after another
+--   Lost             a column leaves V, for one row: the singles, that row's figure, and the others as they were
+--   Renewed          rows are taken out and put in again: the singles, and the counts as they were
+--   Stepped          what a step leaves: the singles, the figures of the rows that stay, and as many figures as before
 --   shrunk-is        a step's singles are `nextSingles`, and the figures of the rows that stay are their ones in what is left of V
 -- Assumes nothing.
 use mathlib.Core.Path.{_≡_, refl, sym, ap, ap₂, subst, _∙_}

@@ -1,4 +1,5 @@
 -- A row of a flat list that gains another row of it, block by block.
+--   TwoRows                two rows of n entries within a size, which do not overlap
 --   gain g dest src n l    l, of which the n entries from dest on have gained the n entries from src on
 --   gain-block             one block, through a copy of it
 --   Blocks                 what the loop over blocks knows at its test

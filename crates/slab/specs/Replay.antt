@@ -2,9 +2,14 @@
 -- there is an order.
 --   number             the number of an answer
 --   rowOf              the row in which a symbol is then read
+--   readBy             the answer of a replay that is done: symbols are read by the order, or in place where there is none
+--   mostBytes          the most bytes of a symbol
 --   slabShaped         the bounds on the numbers, and the slab's size
 --   checked            the checks, in the order in which they refuse
+--   Outcome, outcome   an answer beside a slab
+--   pickCheck, pickOutcome     one of two, by a test
 --   replayed, undone   answer and slab
+--   replayedBy, undoneBy       the same, by what the checks say
 --   replayNumber, undoNumber   the number of the answer, by what is refused first
 --   Replayed, Undone   what `replay` and `undo` promise of their answer r and the slab u that they leave
 --   replay-met, undo-met       the answer and the slab keep the promise

@@ -1,6 +1,8 @@
 -- The verdict on a call: what it is refused for, or the shape that it is taken with.
 --   ifGiven            a number that counts only where octet rows are given;  at-given, at-absent   which it is
 --   lengthsOf          the lengths of what is lent
+--   roomyIn            the test of the rooms, by these lengths
+--   shapeIn            the shape of m rows with the sizes of the table and h octet rows
 --   judged             the verdict, by the count, the matrix and the lengths
 --   tabled-is          the sizes that a verdict goes by
 --   judge-count, judge-shape, judge-entry, judge-room, judge-taken   the verdict, test by test;  rooms-tell   the test of the rooms

@@ -2,10 +2,13 @@
 --   call-one             two outcomes that meet the statement are equal
 --   refused-same         a call that is refused with 1 to 4 changes nothing
 --   Taken                a call that passes the tests;  taken-is   it is the defined run
+--   shapeIn, matrixIn    the shape and the matrix of such a call
+--   runIn, answerIn      the defined run of them, and what it answers with the list room of the call
+--   after                the outcome of the call
 --   taken-number         its number is that of the run's answer
 --   full-exactly         it is 5 exactly when the defined list exceeds the room
 --   slab-same            a call that is not Solved leaves the slab as it was
---   call-blind           symbol bytes affect only symbol bytes
+--   call-blind           symbol bytes affect only symbol bytes;  Alike   two outcomes are the same but for the slab
 --   undo-restores        Solved: undo of the list over the finished slab restores the received slab, every byte
 --   set-recovered        Solved: where the received symbols are what the matrix makes of a set, the slab read through the order is that set
 --   set-only             and no other set makes them

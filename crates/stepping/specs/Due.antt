@@ -1,6 +1,15 @@
--- The figures of a step, from slices: v is V as the column rule left it, of which the first k stand before the columns that go; e is the eligible rows, the chosen one first.
+-- The figures of a step, from slices: v is V as the column rule left it, of which the first k stand before the columns that go; e is the eligible
+-- rows, the chosen one first.
+--   pivotOf, restOf, outOf   the pivot, which is the first of v; what is left of V; the columns that go besides the pivot
+--   belowOf      the rows that stay: those of e after the first
 --   Due          what the step asks of them
 --   Shrunk       what it leaves
+--   in-at        an entry of a list is a member of it
+--   pivot-low, under-rest, under-out   the pivot, the columns that are left and those that go are below l
+--   rows-below, figured-below   the rows that stay lie in the matrix, and have figures
+--   right-then   after the step, the figures of the rows that stay are their ones in what is left of V
+--   shrunk-then  what the step leaves, by its parts: the figures, then the labels for the pivot, then those for the other columns that go
+--   some-row     there is an eligible row
 -- Assumes nothing.
 use mathlib.Core.Path.{_≡_, refl, sym, ap, ap₂, subst, _∙_}
 use mathlib.Core.Logic.{_⊎_, inl, inr, ⊎-elim}

@@ -1,4 +1,5 @@
 -- How many columns the column rule keeps in V.
+--   Kept               how many columns of v are left, and how many are gone, for a row with r ones
 --   arranged-lengths   a row with r ones takes its pivot and r - 1 columns
 -- Assumes nothing.
 use mathlib.Core.Path.{_≡_, refl, sym, ap, _∙_}

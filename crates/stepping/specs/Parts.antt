@@ -1,6 +1,8 @@
 -- A list of three parts: the middle one, as a slice has it, and the list with another in its place.
 --   mid-is, mid-put     the middle part of R ++ (E ++ O), and E′ put in its place
+--   tail-is             the part of x ∷ ys after x is ys
 --   first-rest          a list with a first member, and the part after it
+--   rest-part, out-part the two parts of p ∷ (rest ++ out) after p, cut at place k
 -- Assumes nothing.
 use mathlib.Core.Path.{_≡_, refl, sym, ap, ap₂, _∙_}
 use mathlib.Core.List.{List, [], _∷_, _++_}

@@ -2,7 +2,30 @@
 --   plain          the binary matrix, as lent
 --   Given          the matrix is one that the definition takes
 --   Stands         the slices hold a phase
---   their parts, and what the rule asks of them
+-- Their parts, and what the rule asks of them:
+--   cols-long, rows-long     how many columns and rows there are: those of the steps, V's or the eligible ones, and the others
+--   cols-part, rows-part     V's columns and the eligible rows, as parts of the slices
+--   cols-apart, rows-apart   none of them is there twice
+--   cols-under               V's columns are below the number of columns
+--   elig-under, singles-under   the eligible rows, and the rows with a single one, are below the number of rows
+--   bounds, u-fits           the ends of both parts lie in the slices; no more columns are out than there are
+--   rule-ready               the slices are as the choice asks
+--   least-is                 the least positive figure of the eligible rows is their least positive number of ones in V
+--   chosen-is                the choice by the slices is the definition's
+-- A step, where row x is chosen:
+--   x-low, x-in, x-fits, x-figured   x is a row, is eligible, lies in the matrix, has a figure
+--   ones-is, ones-some       its figure is the number of its ones in V; it is not zero
+--   part-under               V's columns, as that part, are below the number of columns
+--   cut-room, cut-at         V has as many columns as go besides the pivot; the place where these begin
+--   u-next, i-next           the numbers of columns out and of steps stay below 65536
+--   rows-then, cols-then     both parts after the exchanges: x before the rows that stay; the columns as the column rule lays them
+--   wide-now, tall-now, bounds-now   both slices keep their lengths, and the ends of the parts lie in them
+--   due-then                 what the figures of the step ask for holds
+--   stands-next              then the slices hold the phase with row x taken
+-- By the number of steps:
+--   At, rowAt                the phase after k steps; the row that is chosen then, or none
+--   at-some                  where there is one, the phase after a step more is the one with it taken
+--   Standing                 the slices hold the phase after i steps
 -- Assumes nothing.
 use mathlib.Core.Path.{_≡_, refl, sym, ap, ap₂, subst, fun-ext, _∙_}
 use mathlib.Core.Logic.{_⊎_, inl, inr, ⊎-elim}

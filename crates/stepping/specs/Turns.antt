@@ -1,6 +1,7 @@
 -- What a turn of phase one's loop leaves.
 --   asShape     a shape, as the definition has it
 --   Turned      one step more, or the same where no row can be chosen
+--   stepped-on  slices that hold the phase with the chosen row taken hold the phase after one step more
 -- Assumes nothing.
 use mathlib.Core.Path.{_≡_, refl, sym, ap, subst, _∙_}
 use mathlib.Core.List.{List, [], _∷_}

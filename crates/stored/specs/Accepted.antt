@@ -1,5 +1,6 @@
 -- What it says that a form is kept, or that a list is written.
 --   Accepted                            the form is well made, and passes each test
+--   Kept                                the same, and some numbers and a flag are those that it says
 --   judged-accepted, accepted-judged    a form is kept just then, with what it says
 --   Placed, kept-placed                 numbers of a form that is kept keep to their bounds
 --   kept-read, done-write               what is in the rooms then

@@ -1,10 +1,14 @@
 -- What reading and writing a stored list answer, for every input.
 --   readNumber, writtenNumber   the number of an answer: 0, or that of the refusal
+--   pickRead, pickWritten   one of two answers, by a test
 --   judged, judgedBy   what reading a form answers, rooms being for that many operations and order entries
 --   Got, readOf     the answer of reading, and both rooms afterwards
+--   got, settled    an answer beside two rooms; beside the rooms that it leaves, which are filled, or as they were at a refusal
 --   read-as, write-as   an answer that was judged is what reading, or writing, gives
 --   judgedList      what writing a list answers, into a room of that many bytes
 --   Put, writeOf    the answer of writing, and the room afterwards
+--   putIn, settledList   an answer beside a room; beside the room that it leaves, which is filled, or as it was at a refusal
+--   read-once, write-once   two outcomes that meet a statement are the same
 -- Assumes nothing.
 use Prim.Native.Nat.{ℕ, _+_, _*_}
 use mathlib.Core.Path.{_≡_, sym, ap, _∙_}

@@ -5,7 +5,7 @@
 --   padded               a list, and zeros up to a length
 --   number2-digits2, number4-digits4   bytes of a number say it
 --   digits2-number2, digits4-number4   a number's bytes are those that say it
---   getD-padded, length-padded
+--   getD-padded, length-padded   its entries are the list's, and 0 past them; it has that length, if the list is no longer
 --   getD-out             past the end of a list stands 0
 --   fill-begin, fill-turn   a loop that fills a room so begins, and makes a turn
 --   rest-part            what is left from a place on, as the checker has it

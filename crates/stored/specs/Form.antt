@@ -5,7 +5,8 @@
 --   orderSize, formSize             how many bytes an order has, and a form
 --   formOf                          the form of a list
 --   rowsIn, columnsIn, opsIn, flagIn, orderedIn, wordsIn, orderIn   what a form says
---   wordAt, wordsAt                 the word of the operation at the front of bytes, and of many
+--   wordAt, wordsAt                 the word of the operation at a place of bytes, and of many from there on
+--   pickBool                        one of two truth values, by a test
 --   unusedAt, unusedFine            no byte that is not used is other than 0, in one operation and in many; an unknown kind has none
 --   formFine                        length, version, unused bytes and flag are right
 -- Assumes nothing.

@@ -4,6 +4,7 @@
 --   lowBytes, tailBytes     the lowest bytes of entries; those of an order or none, with the flag
 --   laid          the form from these
 --   getD-wordsBytes, getD-past, getD-lowBytes   its bytes one by one
+--   length-wordsBytes   each word has four bytes;  lowBytes-same   entries that are bytes are their own lowest bytes
 --   wordBytes-made   four bytes that were made are a word's
 --   getD-none, getD-tail, laid-head, laid-op, laid-tail   the same of the parts of a form
 --   length-laid   how many bytes it has

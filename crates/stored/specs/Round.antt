@@ -1,8 +1,10 @@
 -- One list has one form.
 --   entries         the order that a form has, which is empty where there is none
+--   words-form, unused-form   the bytes of operations say their words; those of them that are not used are 0
 --   Says, form-says   the form of a list says that list
 --   form-accepted   it is accepted
 --   read-written    what is written reads back to the same list and order
+--   words-back      the bytes of operations that were read are the bytes that they were read from
 --   accepted-form   an accepted form is the form of what it says
 --   one-form        two accepted forms that say the same are the same
 --   written-read    writing what was read gives the same bytes

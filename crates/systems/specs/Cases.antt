@@ -1,8 +1,13 @@
 -- The cases of a text, line after line.
+--   caseWord         the word `case` and a space, with which the line of a case's name begins
 --   Ended, rowsOf    how the lines after a `sys` line go on from a place, beside the buffers
 --   linesOf          the same of the lines after a case's name
+--   follow           what follows a line: one that lets the case go on, one that ends it, one that has no place in it
 --   Outcome, casesOf   the first case of lines from a place on, beside the buffers
 --   readOf           what reading a text from a place on answers and leaves
+--   ended, outcome   how lines go on, and an answer, beside the buffers
+--   place            where the line of a case's name begins and ends, and where the text goes on
+--   answered, named  the answer for a case whose name stands there, by how its lines go on; the same beside the buffers
 --   FoundAt          what reading from a place gives begins at another, with a case's name, or is past the text
 --   find-turn        a loop that looks for a case makes a turn
 --   rows-on, rows-go, rows-bad, rows-over      a loop over the lines of a case

@@ -1,12 +1,20 @@
 -- What a line of a case says, and does to the buffers.
---   columnsOf k      L of the table for K, or 0
+--   sysWord, bitsWord, octetsWord, slabWord, goWord   the words `sys`, `b`, `o` and `s`, with a space after each, and `go`
+--   columnsOf k      L of the table for K, or 0;  columnsIn   by what the table has
+--   system           a case, from its parts
+--   thenNumber       what comes after a number; where there is none, the line is malformed
+--   begun            the case that begins after the four numbers of a `sys` line, if the line is over and the flag of octet rows is 0 or 1
 --   headOf line      what a `sys` line begins
---   Filled           what a row's line does to a case, beside the buffer that it fills
+--   Filled, filled   what a row's line does to a case, beside the buffer that it fills
 --   placed, rowOn    entries that are put into a buffer, and a row of them
+--   bitsTo, octetsTo, slabTo   a case with another number of bits, of octets, of slab bytes
 --   bitsOn, octetsOn, slabOn   what the digits of a `b`, an `o`, an `s` line do
---   Buffers, Turned  the three buffers; what a line does to a case, beside them
+--   Buffers, Turned  the three buffers; what a line does to a case, beside them;  buffers, turned   these from their parts
+--   inBits, inOctets, inSlab   what a row's line does, beside all three buffers: it fills that one
 --   lineOf           what a line after the `sys` line does
---   head-none, head-first, .., head-is   a `sys` line that goes wrong at its word, at a number, after them; and one that does not
+--   head-none        a `sys` line that goes wrong at its word
+--   head-first, head-second, head-third, head-fourth   one that goes wrong at a number
+--   head-long, head-flag, head-is   one that goes on after the numbers, one whose flag is above 1, and one that does not go wrong
 --   placed-full, placed-bad, placed-in, row-none, row-some   the tests of a row
 --   part-long, rest-part   a part of a buffer, and the rest of a line, as the checker has them
 --   line-bits, line-octets, line-slab, line-size, line-go, line-other   the kinds of a line

@@ -1,9 +1,10 @@
 -- Lines, words and numbers of a text. Bytes are ASCII.
 --   endOf t         how many bytes stand before the first newline
---   linesIn t       the lines, without their newlines
+--   linesIn t       the lines, without their newlines;  onto   a byte put in front of the first of them
 --   startsWith w l  the line l starts with the word w
 --   digitsOf v at t   the number that the digits of t, the bytes from `at` on, say after v, and where the line goes on
 --   numberOf at t   the same with a digit at least
+--   newlines t      how many newlines there are
 --   lineNumberOf t i   the number of the line that place i is in
 --   drop-next       what is left from a place on is the byte there, and what is left from the next on
 --   end-here, end-next, end-over             a loop that looks for a line's end

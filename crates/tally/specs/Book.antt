@@ -2,6 +2,8 @@
 --   Book, book       a journal; that of a room's words and a tally
 --   note             one operation more: where there is room its word is stored and the counts grow by what it asks; where there is none, the
 --                    number of those used becomes one above the room, and nothing else changes
+--   stored, full     what a note makes of a journal: where there is room, and where there is none
+--   pickBook         one of two journals, by a test
 --   Noted            a journal is another with one operation more
 --   Fair             no count is above the number of those used, which is at most one above the room: so no sum wraps
 --   afresh, anew     the counts begin anew, in a tally and in a journal
