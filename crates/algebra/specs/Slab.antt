@@ -8,20 +8,19 @@
 --   only               no other set makes it
 --   Agrees, agrees-if, agrees-only-if, report   rows that the order does not name are zeros exactly if some set makes the slab
 -- Assumes nothing.
-use mathlib.Core.Path.{_≡_, refl, sym, ap, ap₂, _∙_, subst}
+use mathlib.Core.Path.{_≡_, refl, sym, ap, ap₂, _∙_}
 use mathlib.Core.Logic.{_↔_}
 use mathlib.Core.List.{List, [], _∷_}
 use Prim.Native.Nat.{ℕ, zero, suc, _+_, _*_, _/_, _%_, _<_}
-use native.Mathlib.Nat.{not-suc-le-zero, le-of-suc-le-suc, mul-le-mul-right, div-add-mod', mod-lt, mul-add-div-right, div-eq-of-lt, mul-add-mod-self-right, mod-eq-of-lt, add-zero}
+use native.Mathlib.Nat.{not-suc-le-zero, le-of-suc-le-suc, mul-le-mul-right, mul-add-div-right, div-eq-of-lt, mul-add-mod-self-right, mod-eq-of-lt, add-zero}
 use native.Mathlib.Omega.{arith}
 use lib.Dec.{lit<}
 use lib.ListN.{length, getD}
 use Rattle.octet.specs.Octet.{mul}
-use Rattle.octet.specs.Field.{Octet, Octets}
+use Rattle.octet.specs.Field.{Octets}
 use Rattle.oplist.specs.declared.Op.{Op}
-use Rattle.oplist.specs.Ops.{Each}
 use Rattle.algebra.specs.Sums.{sum-ext}
-use Rattle.algebra.specs.Rows.{Good, Within, run, run-octet}
+use Rattle.algebra.specs.Rows.{run}
 use Rattle.algebra.specs.Solve.{Unnamed, Makes, Reduces, recovered, agrees, makes}
 use Rattle.algebra.specs.Flat.{Bytes, view, acts, view-acts, acts-bytes, by-columns}
 

@@ -23,7 +23,7 @@ use Rattle.octet.specs.Field.{one-mul, zero-mul, Octets}
 use Rattle.oplist.specs.declared.Op.{Op}
 use Rattle.oplist.specs.Ops.{Each}
 use Rattle.algebra.specs.Sums.{pick-eq, pick-ne, delta, dot, sum-one, sum-zero, dot-octet}
-use Rattle.algebra.specs.Rows.{Good, Within, run, runs, column, times, undo, run-times, run-local, run-zero, run-octet, undo-run, within-undo}
+use Rattle.algebra.specs.Rows.{Good, Within, run, runs, times, undo, run-times, run-local, run-zero, run-octet, undo-run, within-undo}
 
 abbrev pub Unnamed : ℕ → (ℕ → ℕ) → ℕ → Type 0
 Unnamed n order r = (j : ℕ) → j < n → order j ≢ r

@@ -6,7 +6,7 @@
 -- Assumes nothing.
 use mathlib.Core.Path.{_≡_, refl, sym, ap, _∙_}
 use mathlib.Core.Bool.{Bool, true, false, _&&_}
-use mathlib.Core.List.{List, []}
+use mathlib.Core.List.{List}
 use Prim.Native.Nat.{ℕ, _+_, _*_, _-_, _≤_, _<_}
 use native.Mathlib.Nat.{mul-le-mul-right}
 use native.Mathlib.Omega.{arith}
@@ -14,7 +14,7 @@ use borrow.Author.Tests.{le-leb, lt-leb}
 use lib.Dec.{leb}
 use lib.ListN.{length, getD, take, drop, drop-of-length-le, length-drop}
 use lib.Seq.{take-all}
-use Rattle.oplist.specs.Listed.{drop-next}
+use Rattle.loops.specs.Part.{drop-next}
 use Rattle.call.specs.Call.{bitwise, entered}
 
 pub record Sofar (xs : List ℕ) (k : ℕ) : Type 0 where

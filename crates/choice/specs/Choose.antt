@@ -19,7 +19,7 @@ use lib.Dec.{eqb}
 use borrow.Author.Tests.{eq-eqb, ne-eqb}
 use Rattle.rule.specs.Lists.{filter, head, headLeast, leastPos}
 use Rattle.rule.specs.Permitted.{count}
-use Rattle.rule.specs.Rule.{size, node, biggest, atNode, chooseAt, choose}
+use Rattle.rule.specs.Rule.{size, node, atNode, chooseAt, choose}
 use Rattle.grid.specs.Grid.{bit, Under, Rows, Figures, gone}
 use Rattle.columns.specs.First.{firstAt, head-filter}
 use Rattle.choice.specs.Told.{told, Tells, filter-told, filter-both}

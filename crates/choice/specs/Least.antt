@@ -18,8 +18,9 @@ use native.Mathlib.Omega.{arith}
 use lib.ListN.{length, getD, drop}
 use lib.Dec.{ltb}
 use borrow.Author.Tests.{ltb-true, ltb-false, lt-ltb, le-ltb}
+use Rattle.loops.specs.Part.{drop-next}
 use Rattle.rule.specs.Lists.{filter, lesser, leastPos, leastFrom, headLeast}
-use Rattle.grid.specs.Grid.{Under, to-go, gone}
+use Rattle.grid.specs.Grid.{Under, gone}
 use Rattle.columns.specs.First.{firstAt, first-filter, first-none}
 
 pub lesser-none : {a : ℕ} (b : ℕ) → a ≡ 0 → b ≡ lesser a b
@@ -72,7 +73,7 @@ lesser-zero (suc a) = refl
 module _ {f : ℕ → ℕ} {l : List ℕ} {r k : ℕ} (s : Lowering f l r k) where
   pub lower-next : k < length l → {t : ℕ} → t ≡ lesser r (f (getD l k 0)) → Lowering f l t (k + 1)
   lower-next h e =
-      let g : leastPos f (drop k l) ≡ lesser (f (getD l k 0)) (leastPos f (drop (k + 1) l)) = ap (leastPos f) (to-go l k h) in
+      let g : leastPos f (drop k l) ≡ lesser (f (getD l k 0)) (leastPos f (drop (k + 1) l)) = ap (leastPos f) (drop-next l k h) in
       record {
         within = omega arith;
         left = ap (λ (x : ℕ). lesser x (leastPos f (drop (k + 1) l))) e ∙ lesser-assoc r (f (getD l k 0)) (leastPos f (drop (k + 1) l)) ∙ ap (lesser r) (sym g) ∙ s .left;
@@ -116,11 +117,11 @@ module _ {key : ℕ → ℕ} {p : ℕ → Bool} {l : List ℕ} {n : ℕ} {goal :
   -- the member at k does not pass
   pub light-skip : p (getD l k 0) ≡ false → Lighter key p l n goal b (k + 1)
   light-skip e =
-      let g : filter p (drop k l) ≡ filter p (drop (k + 1) l) = rw (to-go l k h, e) in
+      let g : filter p (drop k l) ≡ filter p (drop (k + 1) l) = rw (drop-next l k h, e) in
       record { within = omega arith; low = s .low; left = ap (λ (t : List ℕ). some (leastFrom key b t)) (sym g) ∙ s .left }
 
   passes : p (getD l k 0) ≡ true → filter p (drop k l) ≡ getD l k 0 ∷ filter p (drop (k + 1) l)
-  passes e = rw (to-go l k h, e)
+  passes e = rw (drop-next l k h, e)
 
   pub light-less : p (getD l k 0) ≡ true → getD l k 0 < n → key (getD l k 0) < key b → Lighter key p l n goal (getD l k 0) (k + 1)
   light-less e u q = record {

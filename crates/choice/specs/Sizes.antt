@@ -17,9 +17,10 @@ use lib.ListN.{length, getD, set, drop, length-set}
 use lib.Seq.{getD-set-same, getD-set-other}
 use lib.Dec.{ltb, eqb}
 use borrow.Author.Tests.{eqb-true, eqb-false, eq-eqb, ne-eqb, lt-ltb, le-ltb}
+use Rattle.loops.specs.Part.{drop-next}
 use Rattle.rule.specs.Sets.{bool-or, length-filter}
 use Rattle.rule.specs.Rule.{size, bigger, biggest}
-use Rattle.grid.specs.Grid.{Figures, to-go, gone}
+use Rattle.grid.specs.Grid.{Figures, gone}
 
 abbrev pub Labelled : (ℕ → ℕ) → List ℕ → ℕ → Type 0
 Labelled lab v n = (k : ℕ) → k < length v → lab (getD v k 0) < n
@@ -34,10 +35,10 @@ size-start f = record { long = refl; within = omega arith; each = λ a h. omega 
 
 module _ {lab : ℕ → ℕ} {v : List ℕ} {n k : ℕ} {xs : List ℕ} (s : Sizing lab v n k xs) (h : k < length v) where
   here : size lab (drop k v) (lab (getD v k 0)) ≡ size lab (drop (k + 1) v) (lab (getD v k 0)) + 1
-  here = rw (to-go v k h, eq-eqb (lab (getD v k 0)) (lab (getD v k 0)) refl) (omega arith)
+  here = rw (drop-next v k h, eq-eqb (lab (getD v k 0)) (lab (getD v k 0)) refl) (omega arith)
 
   there : (a : ℕ) → (a ≡ lab (getD v k 0) → ⊥) → size lab (drop k v) a ≡ size lab (drop (k + 1) v) a
-  there a d = rw (to-go v k h, ne-eqb (lab (getD v k 0)) a (λ e. d (sym e)))
+  there a d = rw (drop-next v k h, ne-eqb (lab (getD v k 0)) a (λ e. d (sym e)))
 
   -- one more column has its label
   pub size-next : lab (getD v k 0) < n → Sizing lab v n (k + 1) (set xs (lab (getD v k 0)) (getD xs (lab (getD v k 0)) 0 + 1))

@@ -6,16 +6,15 @@
 --   in-at             an entry is a member
 --   and-yes, and-left, and-right   two tests at once
 -- Assumes nothing.
-use mathlib.Core.Path.{_≡_, refl, sym, ap, ap₂, subst}
-use mathlib.Core.Logic.{inl, inr}
-use mathlib.Core.List.{List, [], _∷_}
+use mathlib.Core.Path.{_≡_, refl, ap}
+use mathlib.Core.List.{List}
 use mathlib.Core.Bool.{Bool, true, false, _&&_}
-use Prim.Native.Nat.{ℕ, zero, suc, _<_}
+use Prim.Native.Nat.{ℕ}
 use native.Mathlib.Omega.{arith}
 use lib.ListN.{length, getD}
 use lib.Dec.{eqb}
-use Rattle.rule.specs.Lists.{In, filter, lesser, leastPos}
-use Rattle.rule.specs.Alike.{filter-alike}
+use Rattle.rule.specs.Lists.{In, filter, leastPos}
+use Rattle.rule.specs.Alike.{filter-alike, least-alike}
 use Rattle.grid.specs.Grid.{Under}
 
 abbrev pub told : List ℕ → ℕ → ℕ
@@ -25,16 +24,6 @@ pub record Tells (f : ℕ → ℕ) (ys xs : List ℕ) : Type 0 where
   pub under : Under (length xs) ys
   pub is : (y : ℕ) → In y ys → told xs y ≡ f y
 
-pub each-in : (P : ℕ → Type 0) (l : List ℕ) → ((k : ℕ) → k < length l → P (getD l k 0)) → (x : ℕ) → In x l → P x
-each-in P [] h x m = absurd m
-each-in P (a ∷ l) h x (inl e) = subst P (sym e) (h 0 (omega arith))
-each-in P (a ∷ l) h x (inr m) = each-in P l (λ k i. h (suc k) (omega arith)) x m
-
-pub in-at : (l : List ℕ) (k : ℕ) → k < length l → In (getD l k 0) l
-in-at [] k h = absurd (omega arith)
-in-at (a ∷ l) zero h = inl refl
-in-at (a ∷ l) (suc k) h = inr (in-at l k (omega arith))
-
 module _ {f : ℕ → ℕ} {ys xs : List ℕ} (t : Tells f ys xs) where
   pub filter-told : (r : ℕ) → filter (λ y. eqb (told xs y) r) ys ≡ filter (λ y. eqb (f y) r) ys
   filter-told r = filter-alike (λ y. eqb (told xs y) r) (λ y. eqb (f y) r) ys (λ y m. ap (λ (n : ℕ). eqb n r) (t .is y m))
@@ -43,15 +32,8 @@ module _ {f : ℕ → ℕ} {ys xs : List ℕ} (t : Tells f ys xs) where
   filter-both p r =
       filter-alike (λ y. p y && eqb (told xs y) r) (λ y. p y && eqb (f y) r) ys (λ y m. ap (λ (n : ℕ). p y && eqb n r) (t .is y m))
 
-least-alike : (f g : ℕ → ℕ) (l : List ℕ) → ((y : ℕ) → In y l → f y ≡ g y) → leastPos f l ≡ leastPos g l
-least-alike f g [] h = refl
-least-alike f g (x ∷ l) h = ap₂ lesser (h x (inl refl)) (least-alike f g l (λ y m. h y (inr m)))
-
 pub least-told : {f : ℕ → ℕ} {ys xs : List ℕ} → Tells f ys xs → leastPos (told xs) ys ≡ leastPos f ys
 least-told {f} {ys} {xs} t = least-alike (told xs) f ys (t .is)
-
-pub and-yes : (a b : Bool) → a ≡ true → b ≡ true → (a && b) ≡ true
-and-yes a b e f = rw (e, f)
 
 pub and-left : (a b : Bool) → a ≡ false → (a && b) ≡ false
 and-left a b e = rw e

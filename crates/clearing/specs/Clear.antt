@@ -1,8 +1,5 @@
 -- A step's additions, as they are recorded: each row below with a nonzero in the pivot's column gets a multiple of the chosen row.
 --   binary-at, octet-at   the entry of row y in column q, of a binary matrix and of octet rows from row s on
---   multiple         c times row x for row y
---   multiple-one, multiple-more   it is AddAssign for 1, and FMA for any other c
---   small-multiple   it fits a word, where c is an octet and both rows are below 65536
 --   Binary           rows with a 0 or a 1 in a column
 --   Listed           a journal is another with a list of operations more
 --   listed-none, listed-then   no operation; one list after another
@@ -18,26 +15,26 @@
 --   cleared          binary rows, then octet rows: together the column is cleared as phase one says
 -- Assumes nothing.
 use mathlib.Core.Path.{_≡_, refl, sym, ap, ap₂, subst, _∙_}
-use mathlib.Core.Logic.{_⊎_, inl, inr, ⊎-elim}
+use mathlib.Core.Logic.{_⊎_, inl, inr}
 use mathlib.Core.List.{List, [], _∷_, _++_}
-use mathlib.Core.Bool.{Bool, true, false, cond, _&&_}
+use mathlib.Core.Bool.{true, false}
 use Prim.Native.Nat.{ℕ, zero, suc, _+_, _-_, _*_, _≤_, _<_}
 use native.Mathlib.Omega.{arith}
 use lib.ListN.{length, getD, drop}
-use lib.Dec.{eqb, leb, ltb}
-use borrow.Author.Tests.{eqb-true, eqb-false, le-leb, lt-leb, lt-ltb, le-ltb}
+use borrow.Author.Tests.{eqb-true, eqb-false}
+use Rattle.oplist.specs.Multiple.{multiple}
+use Rattle.loops.specs.Part.{drop-next, row-within}
 use Rattle.loops.specs.Room.{notes, notes-append}
 use Rattle.oplist.specs.declared.Op.{Op}
-use Rattle.oplist.specs.declared.Op.the-variants.{AddAssign, FMA}
+use Rattle.oplist.specs.declared.Op.the-variants.{AddAssign}
 use Rattle.rule.specs.Lists.{In}
-use Rattle.oplist.specs.Word.{Small}
-use Rattle.grid.specs.Grid.{bit, to-go, gone, row-within}
+use Rattle.grid.specs.Grid.{bit, gone}
 use Rattle.phases.specs.System.{Shape, range, combined, first-rows, octet-rows}
-use Rattle.phases.specs.Matrix.{length-range}
+use Rattle.phases.specs.Matrix.{length-range, getD-range, in-range}
 use Rattle.phases.specs.One.{entry, clears}
 use Rattle.phases.specs.Combined.{combined-octet, combined-binary}
 use Rattle.phases.specs.Occ.{occ-append, occ-range, in-member, member-in}
-use Rattle.phases.specs.Forward.{clears-alike}
+use Rattle.phases.specs.Forward.{clears-alike, entry-multiple}
 use Rattle.phases.specs.Fit.{rows-once, less?}
 use Rattle.tally.specs.Book.{Book, note, Noted, Fair, fair-note, length-note}
 
@@ -46,28 +43,6 @@ binary-at l m q y = getD m (y * l + q) 0
 
 unfoldable pub octet-at : ℕ → ℕ → List ℕ → ℕ → ℕ → ℕ
 octet-at l s m q y = getD m ((y - s) * l + q) 0
-
--- AddAssign for 1, FMA otherwise
-abbrev pub multiple : ℕ → ℕ → ℕ → Op
-multiple zero y x = FMA y x 0
-multiple (suc zero) y x = AddAssign y x
-multiple (suc (suc c)) y x = FMA y x (suc (suc c))
-
-pub multiple-one : (c y x : ℕ) → c ≡ 1 → AddAssign y x ≡ multiple c y x
-multiple-one c y x e = rw e
-
-pub multiple-more : (c y x : ℕ) → (c ≡ 1 → ⊥) → FMA y x c ≡ multiple c y x
-multiple-more zero y x n = refl
-multiple-more (suc zero) y x n = absurd (n refl)
-multiple-more (suc (suc c)) y x n = refl
-
-pub small-multiple : {o : Op} (c y x : ℕ) → c < 256 → y < 65536 → x < 65536 → o ≡ multiple c y x → Small o
-small-multiple c y x hc hy hx e = subst Small (sym e) (go c hc)
-  where
-    go : (c : ℕ) → c < 256 → Small (multiple c y x)
-    go zero h = (hy, hx, h)
-    go (suc zero) h = (hy, hx)
-    go (suc (suc c)) h = (hy, hx, h)
 
 pub record Binary (l : ℕ) (m : List ℕ) (q : ℕ) (ys : List ℕ) : Type 0 where
   pub at : (k : ℕ) → k < length ys → binary-at l m q (getD ys k 0) ≤ 1
@@ -89,11 +64,6 @@ listed-then {g} {h} {k} {os} {ps} a b = record {
   room = b .room ∙ a .room;
 }
 
-entry-one : (c y x : ℕ) (os : List Op) → (c ≡ 0 → ⊥) → entry c y x os ≡ multiple c y x ∷ os
-entry-one zero y x os h = absurd (h refl)
-entry-one (suc zero) y x os h = refl
-entry-one (suc (suc c)) y x os h = refl
-
 pub record Clearing (f : ℕ → ℕ) (x : ℕ) (ys : List ℕ) (g₀ : Book) (k : ℕ) (g : Book) : Type 0 where
   pub within : k ≤ length ys
   pub fair : Fair g
@@ -105,7 +75,7 @@ clear-start h = record { within = omega arith; fair = h; room = refl; left = ref
 
 module _ {f : ℕ → ℕ} {x : ℕ} {ys : List ℕ} {g₀ g : Book} {k : ℕ} (h : Clearing f x ys g₀ k g) where
   turn : k < length ys → clears f x (drop k ys) ≡ entry (f (getD ys k 0)) (getD ys k 0) x (clears f x (drop (k + 1) ys))
-  turn l = ap (clears f x) (to-go ys k l)
+  turn l = ap (clears f x) (drop-next ys k l)
 
   pub clear-none : k < length ys → f (getD ys k 0) ≡ 0 → Clearing f x ys g₀ (k + 1) g
   clear-none l e = record {
@@ -123,10 +93,11 @@ module _ {f : ℕ → ℕ} {x : ℕ} {ys : List ℕ} {g₀ g : Book} {k : ℕ} (
     room = ap (λ (b : Book). length (b .words)) (d .is) ∙ length-note g o ∙ h .room;
     left =
         ap (λ (b : Book). notes note b (clears f x (drop (k + 1) ys))) (d .is ∙ ap (note g) e)
-        ∙ sym (ap (notes note g) (turn l ∙ entry-one (f (getD ys k 0)) (getD ys k 0) x (clears f x (drop (k + 1) ys)) n)) ∙ h .left;
+        ∙ sym (ap (notes note g) (turn l ∙ entry-multiple (f (getD ys k 0)) (getD ys k 0) x (clears f x (drop (k + 1) ys)) n)) ∙ h .left;
   }
 
   pub clear-one : {g′ : Book} → k < length ys → f (getD ys k 0) ≡ 1 → Noted g (AddAssign (getD ys k 0) x) g′ → Clearing f x ys g₀ (k + 1) g′
+  unfolding multiple
   clear-one l e d = clear-next l (λ n. omega arith) (ap (λ (c : ℕ). multiple c (getD ys k 0) x) (sym e)) d
 
   pub clear-end : length ys ≤ k → Listed g₀ (clears f x ys) g
@@ -147,11 +118,6 @@ unfolding bit binary-at
 bit-none l m y q h e = let d : (getD m (y * l + q) 0 ≡ 1 → ⊥) = eqb-false (getD m (y * l + q) 0) 1 e in omega arith
 
 -- the octet rows by place
-pub getD-range : (a k j : ℕ) → j < k → getD (range a k) j 0 ≡ a + j
-getD-range a zero j h = absurd (omega arith)
-getD-range a (suc k) zero h = omega arith
-getD-range a (suc k) (suc j) h = getD-range (suc a) k j (omega arith) ∙ (omega arith)
-
 pub octet-within : {h l n j q : ℕ} → h * l ≤ n → j < h → q < l → j * l + q < n
 octet-within {h} {l} {n} {j} {q} f i k = omega (arith, row-within l h j i)
 
@@ -190,11 +156,6 @@ entry-append (suc (suc c)) y x os ps = refl
 pub clears-append : (f : ℕ → ℕ) (x : ℕ) (ys zs : List ℕ) → clears f x (ys ++ zs) ≡ clears f x ys ++ clears f x zs
 clears-append f x [] zs = refl
 clears-append f x (y ∷ ys) zs = ap (entry (f y) y x) (clears-append f x ys zs) ∙ entry-append (f y) y x (clears f x ys) (clears f x zs)
-
-in-range : (a k y : ℕ) → In y (range a k) → (a ≤ y) × (y < a + k)
-in-range a zero y h = absurd h
-in-range a (suc k) y (inl e) = (omega arith, omega arith)
-in-range a (suc k) y (inr h) = let r = in-range (suc a) k y h in (omega (arith, r .0), omega (arith, r .1))
 
 pub outside : (z : Shape) → z .s + z .h + z .h ≤ z .m → (y : ℕ) → In y (first-rows z) → (y < z .s) ⊎ (z .s + z .h ≤ y)
 outside z fits y i = go (less? y (z .s)) (less? y (z .s + z .h))

@@ -6,19 +6,9 @@ ghost use Rattle.phases.specs.System.{range};
 ghost use Rattle.phases.specs.One.{clears};
 ghost use Rattle.grid.specs.Grid.{Under, Rows};
 ghost use Rattle.tally.specs.Book.{book, Fair};
-ghost use Rattle.clearing.specs.Clear.{binary-at, octet-at, multiple, Binary, Listed};
+ghost use Rattle.clearing.specs.Clear.{binary-at, octet-at, Binary, Listed};
 use oplist::Op;
 use tally::Tally;
-
-// The operation that adds c times row x to row y.
-fn multiple_of(c: u8, y: usize, x: usize) -> Op
-    ensures { λ r. ⌜ r ≡ multiple c y x ⌝ }
-{
-    if c == 1 {
-        return Op::AddAssign(y, x);
-    }
-    Op::FMA(y, x, c)
-}
 
 // Row x is added to each of the rows ys with a one in column q, from the top.
 pub fn clear_rows(
@@ -67,7 +57,7 @@ pub fn clear_octets(
         let k = j * l + q;
         let c = octs[k];
         if c != 0 {
-            let op = multiple_of(c, s + j, x);
+            let op = oplist::multiple_of(c, s + j, x);
             r = tally::record(list, r, op);
         }
         j += 1;

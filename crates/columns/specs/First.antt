@@ -14,9 +14,10 @@ use Prim.Native.Nat.{ℕ, suc, _+_, _-_, _≤_, _<_}
 use native.Mathlib.Omega.{arith}
 use lib.ListN.{length, getD, take, drop, length-drop}
 use lib.Seq.{length-take-le}
+use Rattle.loops.specs.Part.{drop-next}
 use Rattle.rule.specs.Lists.{In, filter, keep, head}
 use Rattle.rule.specs.Sets.{tf}
-use Rattle.grid.specs.Grid.{to-go, gone}
+use Rattle.grid.specs.Grid.{gone}
 
 unfoldable pub firstAt : (ℕ → Bool) → List ℕ → ℕ
 firstAt p [] = 0
@@ -34,12 +35,12 @@ module _ {p : ℕ → Bool} {l : List ℕ} {k : ℕ} (s : Seeking p l k) where
   pub seek-next : k < length l → p (getD l k 0) ≡ false → Seeking p l (k + 1)
   unfolding firstAt
   seek-next h e =
-      let f : firstAt p (drop k l) ≡ suc (firstAt p (drop (k + 1) l)) = rw (to-go l k h, e) refl in
+      let f : firstAt p (drop k l) ≡ suc (firstAt p (drop (k + 1) l)) = rw (drop-next l k h, e) refl in
       record { within = omega arith; left = omega (arith, s .left) }
 
   pub seek-found : k < length l → p (getD l k 0) ≡ true → k ≡ firstAt p l
   unfolding firstAt
-  seek-found h e = let f : firstAt p (drop k l) ≡ 0 = rw (to-go l k h, e) refl in omega (arith, s .left)
+  seek-found h e = let f : firstAt p (drop k l) ≡ 0 = rw (drop-next l k h, e) refl in omega (arith, s .left)
 
   pub seek-end : length l ≤ k → k ≡ firstAt p l
   unfolding firstAt

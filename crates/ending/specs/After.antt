@@ -3,22 +3,20 @@
 --                    matrix of these columns, after its operations
 --   First            after phase one, where V is empty
 --   Reached          after phase two, where every column has a row
+--   getD-member      an entry of a list is one of its members
 --   rows-facts, columns-facts   rows by place are below m, columns below l, each once
 --   one-within, one-small   the rows of phase one's operations are below m; each operation fits a word
 --   prepared-is      what phase two needs
 -- Assumes nothing.
-use mathlib.Core.Path.{_≡_, refl, sym, ap, ap₂, _∙_, subst}
-use mathlib.Core.Logic.{_⊎_, inl, inr, _≢_}
-use mathlib.Core.Bool.{Bool, true, false, cond}
+use mathlib.Core.Path.{_≡_, refl, sym, ap, _∙_, subst}
+use mathlib.Core.Logic.{_≢_}
 use mathlib.Core.List.{List, [], _∷_, _++_, map}
 use Prim.Native.Nat.{ℕ, zero, suc, _+_, _-_, _*_, _≤_, _<_}
 use native.Mathlib.Omega.{arith}
 use lib.ListN.{length, getD, take, drop, length-append, length-drop}
-use lib.Seq.{take-at, drop-at, getD-drop}
-use lib.Dec.{eqb}
+use lib.Seq.{getD-drop}
 use Rattle.loops.specs.Out.{Out}
-use Rattle.loops.specs.Way.{Way, go, halt}
-use Rattle.octet.specs.Field.{Octet}
+use Rattle.loops.specs.Way.{go}
 use Rattle.oplist.specs.declared.Op.{Op}
 use Rattle.oplist.specs.declared.Op.the-variants.{AddAssign, MulAssign, FMA}
 use Rattle.oplist.specs.Ops.{Each, each-map, each-both}
@@ -26,28 +24,27 @@ use Rattle.oplist.specs.Ops as Ops
 use Rattle.oplist.specs.Word.{Small, packed}
 use Rattle.oplist.specs.Listed.{opsOf, opsOf-packed}
 use Rattle.oplist.specs.Facts.{Rows, Order}
-use Rattle.algebra.specs.Rows.{Within, runs}
+use Rattle.algebra.specs.Rows.{Within}
 use Rattle.algebra.specs.Flat.{Bytes}
 use Rattle.phases.specs.System.{Shape as Defined, range, combined, octet-rows}
 use Rattle.phases.specs.One.{Step, Phase, rows-of, pivots-of, phase-one, ops-one}
 use Rattle.phases.specs.Two.{Second, acts, working, forward, backward}
-use Rattle.phases.specs.Occ.{tick, occ, tick-eq, occ-append, Member, Once}
-use Rattle.phases.specs.Fit.{Fit, all-rows, rows-once, rows-below, cols-once, cols-below, less?}
+use Rattle.phases.specs.Occ.{occ, tick-eq, occ-append, Member, Once}
+use Rattle.phases.specs.Fit.{Fit, all-rows, rows-once, rows-below, cols-once, cols-below}
 use Rattle.phases.specs.Sweep.{rows-kept, ops-within}
 use Rattle.phases.specs.Walk.{Walked, walked-end}
-use Rattle.phases.specs.ByPlace.{length-rows-of, length-pivots-of}
+use Rattle.phases.specs.ByPlace.{length-pivots-of}
 use Rattle.tally.specs.declared.Tally.{Tally}
 use Rattle.tally.specs.Book.{book}
 use Rattle.second.specs.Whole.{Prepared}
 use Rattle.call.specs.declared.Shape.{Shape}
-use Rattle.call.specs.Call.{Working}
 use Rattle.ending.specs.Scalars.{Scaled, one-scaled}
 use Rattle.ending.specs.Ran.{asShape, Posed}
 use Rattle.ending.specs.Told.{posed-fit}
 use Rattle.ending.specs.Journal.{Holds, Counted, holds-short, holds-used, holds-words}
 
 -- a list whose members occur once, below m
-getD-member : (xs : List ℕ) (k : ℕ) → k < length xs → Member xs (getD xs k 0)
+pub getD-member : (xs : List ℕ) (k : ℕ) → k < length xs → Member xs (getD xs k 0)
 getD-member [] k h = absurd (omega arith)
 getD-member (x ∷ xs) zero h = omega (arith, tick-eq x x refl)
 getD-member (x ∷ xs) (suc k) h = omega (arith, getD-member xs k (omega arith))

@@ -12,40 +12,37 @@
 -- Assumes nothing.
 use mathlib.Core.Path.{_≡_, refl, sym, ap, ap₂, _∙_, subst}
 use mathlib.Core.Logic.{_⊎_, inl, inr}
-use mathlib.Core.Bool.{Bool, true, false, cond}
+use mathlib.Core.Bool.{true, false}
 use mathlib.Core.List.{List, [], _∷_, _++_, map, append-assoc}
-use Prim.Native.Nat.{ℕ, zero, suc, _+_, _-_, _*_, _≤_, _<_}
+use Prim.Native.Nat.{ℕ, _+_, _-_, _*_, _≤_, _<_}
 use native.Mathlib.Nat.{mul-le-mul-right}
 use native.Mathlib.Omega.{arith}
 use borrow.Author.Tests.{lt-ltb, le-ltb}
 use lib.Dec.{ltb}
-use lib.ListN.{length, getD, take, drop, length-append, length-map, List·getD-append}
-use lib.Seq.{take-at, drop-at, take-length, getD-drop}
+use lib.ListN.{length, getD, take, drop, length-append, List·getD-append}
+use lib.Seq.{take-at, drop-at, take-length}
 use Rattle.loops.specs.Room.{notes}
-use Rattle.loops.specs.Out.{Out}
-use Rattle.loops.specs.Way.{Way, go, halt}
+use Rattle.loops.specs.Way.{go}
 use Rattle.oplist.specs.declared.Op.{Op}
 use Rattle.oplist.specs.declared.Op.the-variants.{AddAssign, MulAssign, FMA}
 use Rattle.oplist.specs.Ops.{Each, each-map, dest}
 use Rattle.oplist.specs.Word.{packed}
 use Rattle.oplist.specs.Count.{adds, muls}
-use Rattle.oplist.specs.Facts.{Rows, Order}
+use Rattle.oplist.specs.Facts.{Rows}
 use Rattle.algebra.specs.Rows.{Within, runs}
 use Rattle.algebra.specs.Flat.{Bytes}
 use Rattle.grid.specs.Grid.{Under, Figures}
-use Rattle.phases.specs.System.{octet-rows}
 use Rattle.phases.specs.One.{Step, rows-of, pivots-of}
-use Rattle.phases.specs.Two.{Second, forward}
 use Rattle.phases.specs.Rest.{kept, last-first, phase-four, by-column}
-use Rattle.phases.specs.Run.{Run, whole, finish, second, defined, Answer as Told, answer}
-use Rattle.phases.specs.Occ.{occ, tick-eq, occ-append, occ-range, Member}
+use Rattle.phases.specs.Run.{Run, whole, finish, second, Answer as Told, answer}
+use Rattle.phases.specs.Occ.{occ-range, Member}
 use Rattle.phases.specs.Fit.{Fit, less?}
 use Rattle.phases.specs.Combined.{combined-binary}
 use Rattle.phases.specs.Choices.{never-octet}
 use Rattle.phases.specs.ByPlace.{length-rows-of, length-pivots-of}
 use Rattle.phases.specs.Forward.{Ended}
 use Rattle.phases.specs.Forward as Forward
-use Rattle.phases.specs.Means.{ended}
+use Rattle.phases.specs.Means.{ended, length-by-column}
 use Rattle.tally.specs.declared.Tally.{Tally}
 use Rattle.tally.specs.Book.{Book, book, note, anew}
 use Rattle.rest.specs.Marks.{flagOf}
@@ -53,17 +50,17 @@ use Rattle.rest.specs.Again.{third, fifth, Listing, listing-is, words-kept}
 use Rattle.rest.specs.Again as Again
 use Rattle.rest.specs.Gather.{cell, Chosen, fourth}
 use Rattle.rest.specs.Gather as Gather
-use Rattle.rest.specs.Columns.{Ordering, Blank, placed, placed-is, by-column-take, length-by-column}
+use Rattle.rest.specs.Columns.{Ordering, Blank, placed, placed-is, by-column-take}
 use Rattle.answers.specs.declared.Counts.{Counts}
 use Rattle.call.specs.declared.Shape.{Shape}
 use Rattle.answers.specs.declared.Answer.{Answer}
 use Rattle.answers.specs.declared.Answer.the-variants.{Solved, ListFull}
-use Rattle.call.specs.Over.{over, blank, after-over, length-over}
+use Rattle.call.specs.Over.{over, blank, after-over}
 use Rattle.call.specs.Call.{answerOf, told}
-use Rattle.ending.specs.Ran.{asShape, Posed}
+use Rattle.ending.specs.Ran.{Posed}
 use Rattle.ending.specs.Told.{posed-fit, entered-at}
 use Rattle.ending.specs.Journal.{Holds, Counted, holds-more, holds-short, holds-long, holds-used, holds-words, holds-behind, holds-counts}
-use Rattle.ending.specs.After.{Z, A, p, ts, os, cols, rest, X, First, Reached, rows-facts, columns-facts, one-within, one-small}
+use Rattle.ending.specs.After.{Z, A, ts, os, cols, rest, Reached, rows-facts, columns-facts, one-within, one-small, getD-member}
 use Rattle.ending.specs.Then.{two-of, run-is}
 
 -- the counts of a phase, by value
@@ -227,12 +224,7 @@ module _ (z : Shape) (bits octets : List ℕ) (P : Posed z bits octets) (hb : By
       y = getD (rows-of T) k 0
 
       member : Member (rows-of T) (getD (rows-of T) k 0)
-      member = getD-in (rows-of T) k (omega (arith, lt))
-        where
-          getD-in : (xs : List ℕ) (k : ℕ) → k < length xs → Member xs (getD xs k 0)
-          getD-in [] k h = absurd (omega arith)
-          getD-in (x ∷ xs) zero h = omega (arith, tick-eq x x refl)
-          getD-in (x ∷ xs) (suc k) h = omega (arith, getD-in xs k (omega arith))
+      member = getD-member (rows-of T) k (omega (arith, lt))
 
       at : (getD (rows-of T) k 0 < z .s) ⊎ (z .s ≤ getD (rows-of T) k 0) → (getD (rows-of T) k 0 < z .s + z .h) ⊎ (z .s + z .h ≤ getD (rows-of T) k 0)
           → (getD (rows-of T) k 0 < z .s) ⊎ (z .s + z .h ≤ getD (rows-of T) k 0)

@@ -3,7 +3,7 @@
 --   clears-scaled, one-scaled, two-scaled, four-scaled   the parts of a list
 --   answer-scaled    the list of a run's answer
 -- Assumes nothing.
-use mathlib.Core.Path.{_≡_, sym, subst}
+use mathlib.Core.Path.{sym, subst}
 use mathlib.Core.Bool.{Bool, true, false, cond}
 use mathlib.Core.List.{List, [], _∷_, _++_}
 use Prim.Native.Nat.{ℕ, zero, suc}
@@ -11,7 +11,6 @@ use lib.Dec.{ltb}
 use lib.ListN.{length}
 use Rattle.loops.specs.Out.{Out}
 use Rattle.loops.specs.Way.{Way, go, halt}
-use Rattle.octet.specs.Octet.{inverse}
 use Rattle.octet.specs.Field.{Octet, inv-octet}
 use Rattle.oplist.specs.declared.Op.{Op}
 use Rattle.oplist.specs.declared.Op.the-variants.{AddAssign, MulAssign, FMA}
@@ -27,7 +26,7 @@ use Rattle.phases.specs.Sweep.{Entries, runs-entries}
 use Rattle.phases.specs.Gauss.{ops-at, ops-two, above}
 use Rattle.phases.specs.Finish.{kept-each}
 use Rattle.phases.specs.Solved.{list-two}
-use Rattle.phases.specs.Forward.{Ended, Stage}
+use Rattle.phases.specs.Forward.{Ended}
 use Rattle.phases.specs.Means.{ended, two-is}
 
 abbrev pub Scaled : Op → Type 0

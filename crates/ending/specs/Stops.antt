@@ -5,7 +5,7 @@
 -- Assumes nothing.
 use mathlib.Core.Path.{_≡_, refl, sym, ap, ap₂, _∙_, subst}
 use mathlib.Core.Bool.{true, false}
-use mathlib.Core.List.{List, [], _∷_, _++_, map, append-nil}
+use mathlib.Core.List.{List, [], _++_, append-nil}
 use Prim.Native.Nat.{ℕ, _+_, _-_, _*_, _≤_, _<_}
 use native.Mathlib.Omega.{arith}
 use borrow.Author.Tests.{lt-ltb, le-ltb}
@@ -14,21 +14,19 @@ use lib.ListN.{length, getD, take, drop, length-append}
 use lib.Seq.{take-at, drop-at, length-take-le}
 use Rattle.loops.specs.Way.{halt}
 use Rattle.oplist.specs.declared.Op.{Op}
-use Rattle.oplist.specs.Word.{packed}
 use Rattle.oplist.specs.Facts.{Rows}
 use Rattle.algebra.specs.Rows.{runs}
 use Rattle.algebra.specs.Flat.{Bytes}
-use Rattle.grid.specs.Grid.{Under}
 use Rattle.phases.specs.One.{Step, rows-of, pivots-of}
 use Rattle.phases.specs.Rest.{by-column, by-substitution}
-use Rattle.phases.specs.Run.{Run, whole, finish, Answer as Told, answer}
+use Rattle.phases.specs.Run.{Run, whole, finish, answer}
 use Rattle.phases.specs.Fit.{Fit}
 use Rattle.phases.specs.ByPlace.{length-rows-of, length-pivots-of}
 use Rattle.phases.specs.Forward.{Ended}
-use Rattle.phases.specs.Means.{ended}
+use Rattle.phases.specs.Means.{ended, length-by-column}
 use Rattle.tally.specs.declared.Tally.{Tally}
 use Rattle.second.specs.Store.{storeOf}
-use Rattle.rest.specs.Columns.{placed, placed-is, length-by-column}
+use Rattle.rest.specs.Columns.{placed, placed-is}
 use Rattle.rest.specs.Vector.{valued, valued-is}
 use Rattle.rest.specs.Vector as Vector
 use Rattle.call.specs.declared.Shape.{Shape}
@@ -38,8 +36,8 @@ use Rattle.call.specs.Over.{over, blank}
 use Rattle.call.specs.Call.{answerOf, told}
 use Rattle.ending.specs.Ran.{asShape, Posed, Ran}
 use Rattle.ending.specs.Told.{posed-fit}
-use Rattle.ending.specs.Journal.{Holds, holds-short, holds-long}
-use Rattle.ending.specs.After.{Z, A, p, ts, os, cols, rest, X, columns-facts}
+use Rattle.ending.specs.Journal.{holds-short, holds-long}
+use Rattle.ending.specs.After.{Z, A, ts, os, cols, rest, columns-facts}
 use Rattle.ending.specs.Then.{run-is, Stuck}
 use Rattle.ending.specs.Ends.{Ending, over-placed}
 

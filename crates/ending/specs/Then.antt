@@ -6,35 +6,33 @@
 -- Assumes nothing.
 use mathlib.Core.Path.{_≡_, refl, sym, ap, ap₂, _∙_, subst}
 use mathlib.Core.Bool.{false, cond}
-use mathlib.Core.List.{List, [], _∷_, _++_, map}
-use Prim.Native.Nat.{ℕ, _+_, _-_, _*_, _≤_, _<_}
+use mathlib.Core.List.{List, [], _++_}
+use Prim.Native.Nat.{ℕ, _+_, _-_, _≤_}
 use native.Mathlib.Omega.{arith}
-use lib.ListN.{length, getD, take, drop, length-append, take-append-drop}
+use lib.ListN.{length, take, drop, take-append-drop}
 use lib.Seq.{take-at, drop-at}
 use Rattle.loops.specs.Room.{notes}
-use Rattle.loops.specs.Out.{Out, at as beside}
-use Rattle.loops.specs.Way.{Way, go, halt, mapWay, lay}
+use Rattle.loops.specs.Out.{Out}
+use Rattle.loops.specs.Way.{Way, go, halt}
 use Rattle.oplist.specs.declared.Op.{Op}
-use Rattle.oplist.specs.Word.{packed}
 use Rattle.oplist.specs.Listed.{opsOf, opsOf-packed}
 use Rattle.oplist.specs.Facts.{Order}
 use Rattle.algebra.specs.Flat.{Bytes}
-use Rattle.phases.specs.System.{combined}
-use Rattle.phases.specs.One.{Step, rows-of, pivots-of}
-use Rattle.phases.specs.Two.{Second, acts, working, forward, backward}
-use Rattle.phases.specs.Run.{Run, finish, second, refused, goes-on, defined}
+use Rattle.phases.specs.One.{rows-of, pivots-of}
+use Rattle.phases.specs.Two.{Second, forward, backward}
+use Rattle.phases.specs.Run.{second, refused, goes-on, defined}
 use Rattle.phases.specs.ByPlace.{length-rows-of, length-pivots-of}
 use Rattle.tally.specs.declared.Tally.{Tally}
 use Rattle.tally.specs.Book.{Book, book, note, anew}
 use Rattle.second.specs.declared.Elimination.{Elimination}
 use Rattle.second.specs.declared.Elimination.the-variants.{Done, Singular}
 use Rattle.second.specs.Store.{storeOf}
-use Rattle.second.specs.Forward.{View, sight, told, seen, through, stopped}
+use Rattle.second.specs.Forward.{through, stopped}
 use Rattle.second.specs.Fill.{entries}
 use Rattle.second.specs.Whole.{finished, both, begun, Reduced}
 use Rattle.rest.specs.Again.{words-kept}
 use Rattle.call.specs.declared.Shape.{Shape}
-use Rattle.ending.specs.Ran.{asShape, Posed}
+use Rattle.ending.specs.Ran.{Posed}
 use Rattle.ending.specs.Journal.{Holds, Counted, holds-more, holds-short, holds-used, holds-words, holds-counts}
 use Rattle.ending.specs.After.{Z, A, p, ts, os, cols, rest, X, First, Reached, one-small}
 

@@ -7,16 +7,15 @@
 -- Assumes nothing.
 use mathlib.Core.Path.{_≡_, refl, sym, ap, _∙_, subst}
 use mathlib.Core.Logic.{_⊎_, inl, inr}
-use mathlib.Core.Bool.{Bool, true, false, cond, _&&_}
+use mathlib.Core.Bool.{Bool, true, false, cond}
 use mathlib.Core.List.{List, [], _∷_, map}
 use Prim.Native.Nat.{ℕ, zero, suc, _+_, _-_, _*_, _<_, _≤_}
 use native.Mathlib.Nat.{mul-le-mul-right}
 use native.Mathlib.Omega.{arith}
 use borrow.Author.Tests.{leb-true}
-use lib.Dec.{leb, ltb, eqb}
+use lib.Dec.{leb, ltb}
 use lib.ListN.{length, getD, take, drop}
 use lib.Seq.{getD-take, getD-drop}
-use Rattle.octet.specs.Field.{Octet}
 use Rattle.oplist.specs.declared.Op.{Op}
 use Rattle.oplist.specs.declared.Op.the-variants.{AddAssign, MulAssign, FMA}
 use Rattle.oplist.specs.Ops.{Each, each-map, each-both}
@@ -26,7 +25,6 @@ use Rattle.oplist.specs.Check.{listFine}
 use Rattle.oplist.specs.Facts.{and-left, and-right, Fine, each-listFine}
 use Rattle.algebra.specs.Rows.{Good, Within}
 use Rattle.algebra.specs.Flat.{Bytes}
-use Rattle.algebra.specs.Solve.{Reduces}
 use Rattle.phases.specs.System.{combined}
 use Rattle.phases.specs.Run.{Run, End, solved, no-pivot, singular, whole, defined, Answer as Told, ListFull, ending, answer}
 use Rattle.phases.specs.Fit.{Fit}

@@ -4,20 +4,20 @@
 --   opened-degrees     and its degrees are the definition's
 -- Assumes nothing.
 use mathlib.Core.Path.{_≡_, refl, sym, ap, subst, _∙_}
-use mathlib.Core.List.{List, [], _∷_, _++_}
-use Prim.Native.Nat.{ℕ, zero, suc, _+_, _-_, _*_, _≤_, _<_}
+use mathlib.Core.List.{List}
+use Prim.Native.Nat.{ℕ, _+_, _-_, _*_, _≤_}
 use native.Mathlib.Omega.{arith}
-use lib.ListN.{length, getD, take}
+use lib.ListN.{length}
 use Rattle.loops.specs.Loop.{for-none}
 use Rattle.rule.specs.Rule.{State}
-use Rattle.phases.specs.System.{Shape, range, first-rows, octet-rows}
+use Rattle.phases.specs.System.{Shape}
 use Rattle.phases.specs.Matrix.{length-range}
-use Rattle.phases.specs.One.{Phase, one, degree, begin, step}
+use Rattle.phases.specs.One.{Phase, degree, begin, step}
 use Rattle.phases.specs.Walk.{begin-walked}
 use Rattle.grid.specs.Grid.{bit}
 use Rattle.choice.specs.Told.{told}
 use Rattle.opening.specs.Opened.{Opens, Opened, opened-figure, begins}
-use Rattle.stepping.specs.Stands.{plain, Given, Stands, Standing, At}
+use Rattle.stepping.specs.Stands.{plain, Given, Stands, Standing}
 
 -- the lengths of the lent slices
 pub record Lent (z : Shape) (octs c d ones deg s labels sizes : ℕ) : Type 0 where

@@ -6,27 +6,26 @@
 --   ops-then       the list of a phase after one row more is chosen: those additions come last
 --   ops-next       phase one's list after a step more
 -- Assumes nothing.
-use mathlib.Core.Path.{_≡_, refl, sym, ap, ap₂, subst, _∙_}
-use mathlib.Core.Logic.{_⊎_, inl, inr, ⊎-elim}
+use mathlib.Core.Path.{_≡_, sym, ap, subst, _∙_}
+use mathlib.Core.Logic.{_⊎_}
 use mathlib.Core.List.{List, [], _∷_, _++_, append-assoc, append-nil}
-use mathlib.Core.Option.{Option, some, none}
-use Prim.Native.Nat.{ℕ, zero, suc, _+_, _-_, _*_, _≤_, _<_}
+use mathlib.Core.Option.{some}
+use Prim.Native.Nat.{ℕ, _+_, _-_, _*_, _≤_, _<_}
 use native.Mathlib.Omega.{arith}
-use lib.ListN.{length, getD, take, drop, length-append, List·getD-append}
+use lib.ListN.{length, getD, List·getD-append}
 use lib.Seq.{getD-append-add}
-use Rattle.loops.specs.Part.{part}
+use Rattle.rule.specs.Sets.{in-at}
+use Rattle.loops.specs.Part.{part, row-within}
 use Rattle.oplist.specs.declared.Op.{Op}
 use Rattle.rule.specs.Lists.{In}
 use Rattle.rule.specs.Rule.{arrange, without, Cut}
 use Rattle.phases.specs.System.{Shape, range, combined, first-rows, octet-rows}
-use Rattle.phases.specs.One.{Step, Phase, rows-of, pivots-of, one, degree, taken, clears, ops-one}
+use Rattle.phases.specs.One.{Step, Phase, rows-of, pivots-of, one, taken, clears, ops-one}
 use Rattle.phases.specs.ByPlace.{rows-join, pivots-join, length-rows-of, length-pivots-of}
-use Rattle.phases.specs.Occ.{occ, occ-append, in-member, member-in, Member}
-use Rattle.phases.specs.Fit.{Fit, all-rows, rows-below, cols-below}
-use Rattle.phases.specs.Sweep.{Legal, rows-kept, last-rows}
-use Rattle.phases.specs.Walk.{Walked}
-use Rattle.grid.specs.Grid.{bit, Under, Rows, row-within}
-use Rattle.choice.specs.Told.{in-at}
+use Rattle.phases.specs.Occ.{occ-append, in-member, member-in}
+use Rattle.phases.specs.Fit.{all-rows, rows-below, cols-below}
+use Rattle.phases.specs.Sweep.{rows-kept}
+use Rattle.grid.specs.Grid.{Under, Rows}
 use Rattle.clearing.specs.Clear.{Binary, binary-at, outside}
 use Rattle.stepping.specs.Stands.{plain, Given, Stands, At, rowAt, at-some, rows-part, rows-long, cols-long}
 

@@ -15,20 +15,19 @@
 -- Assumes nothing.
 use mathlib.Core.Path.{_≡_, refl, sym, ap, subst, _∙_}
 use mathlib.Core.List.{List, [], _∷_, _++_}
-use mathlib.Core.Option.{Option, some, none}
+use mathlib.Core.Option.{some, none}
 use Prim.Native.Nat.{ℕ, zero, suc, _+_, _-_, _*_, _≤_, _<_}
 use native.Mathlib.Omega.{arith}
-use lib.ListN.{length, getD}
+use lib.ListN.{length}
 use Rattle.loops.specs.Loop.{for-next}
 use Rattle.oplist.specs.declared.Op.{Op}
 use Rattle.rule.specs.Permitted.{count}
 use Rattle.phases.specs.System.{Shape, combined, octet-rows}
-use Rattle.phases.specs.One.{Step, Phase, rows-of, pivots-of, one, degree, begin, taking, step, phase-one, ops-one}
+use Rattle.phases.specs.One.{Step, Phase, rows-of, pivots-of, one, begin, taking, step, phase-one, ops-one}
 use Rattle.phases.specs.Walk.{none-exactly}
 use Rattle.tally.specs.Book.{Book, book, Fair}
-use Rattle.tally.specs.declared.Tally.{Tally}
 use Rattle.clearing.specs.Clear.{Listed, listed-none, listed-then}
-use Rattle.stepping.specs.Stands.{plain, Given, Stands, Standing, At, rowAt, cols-long}
+use Rattle.stepping.specs.Stands.{plain, Given, Standing, At, rowAt, cols-long}
 use Rattle.stepping.specs.declared.State.{State}
 use Rattle.stepping.specs.declared.Made.{Made}
 use Rattle.stepping.specs.declared.Made.the-variants.{Stepped, Nothing}

@@ -8,22 +8,22 @@ use mathlib.Core.Logic.{_⊎_, inl, inr, ⊎-elim}
 use mathlib.Core.List.{List, [], _∷_, _++_}
 use mathlib.Core.Bool.{Bool, true, false, cond, _&&_}
 use mathlib.Core.Option.{Option, some, none}
-use Prim.Native.Nat.{ℕ, zero, suc, _+_, _-_, _*_, _≤_, _<_}
+use Prim.Native.Nat.{ℕ, zero, suc, _+_, _-_, _<_}
 use native.Mathlib.Numerals.{add-one}
 use native.Mathlib.Omega.{arith}
-use lib.ListN.{length, getD, take, drop}
+use lib.ListN.{length, take, drop}
 use lib.Dec.{eqb, ltb}
 use Rattle.loops.specs.Loop.{for-none, for-next}
-use Rattle.rule.specs.Lists.{In, Nodup, filter, head, headLeast, leastFrom, leastPos, lesser}
+use Rattle.rule.specs.Lists.{In, filter, head, headLeast, leastFrom, leastPos}
 use Rattle.rule.specs.Sets.{in-filter}
-use Rattle.rule.specs.Alike.{filter-alike}
+use Rattle.rule.specs.Alike.{filter-alike, least-alike}
 use Rattle.rule.specs.Permitted.{ones, count}
-use Rattle.rule.specs.Rule.{Marks, addPair, addPairs, lose, loseFirst, refresh, loseCol, loseCols, refreshAll, finish, nextSingles, noted, without, Cut, cut, arrange, node, atNode, chooseAt, choose, State, start, chosen, after, rawMarks, firstMarks, byLeast}
+use Rattle.rule.specs.Rule.{Marks, addPair, addPairs, lose, loseFirst, refresh, loseCol, loseCols, refreshAll, finish, nextSingles, noted, without, Cut, cut, arrange, node, atNode, chooseAt, choose, State, start, chosen, after, rawMarks, byLeast}
 use Rattle.rule.specs.Singles.{Removed, exchanged, in-either}
 use Rattle.rule.specs.Chosen.{Good}
 use Rattle.rule.specs.Reached.{reached-good}
 use Rattle.phases.specs.System.{Shape, range, combined, first-rows, octet-rows}
-use Rattle.phases.specs.One.{Step, Phase, one, degree, begin, taken, taking, step, phase-after, phase-one}
+use Rattle.phases.specs.One.{Phase, one, degree, begin, taken, taking, step, phase-after, phase-one}
 use Rattle.phases.specs.Combined.{combined-binary}
 use Rattle.phases.specs.Occ.{in-member, member-in, occ-append, occ-range, once-nodup}
 use Rattle.phases.specs.Fit.{cols-once, rows-once, less?}
@@ -51,10 +51,6 @@ least-from k k′ (x ∷ l) b hb hl =
 head-least : (k k′ : ℕ → ℕ) (l : List ℕ) → ((x : ℕ) → In x l → k x ≡ k′ x) → headLeast k l ≡ headLeast k′ l
 head-least k k′ [] h = refl
 head-least k k′ (x ∷ l) h = ap some (least-from k k′ l x (h x (inl refl)) (λ y m. h y (inr m)))
-
-least-pos : (f f′ : ℕ → ℕ) (l : List ℕ) → ((x : ℕ) → In x l → f x ≡ f′ x) → leastPos f l ≡ leastPos f′ l
-least-pos f f′ [] h = refl
-least-pos f f′ (x ∷ l) h = ap₂ lesser (h x (inl refl)) (least-pos f f′ l (λ y m. h y (inr m)))
 
 module _ (row row′ : ℕ → ℕ → Bool) where
   abbrev pub SameOn : List ℕ → Type 0
@@ -84,7 +80,7 @@ module _ (row row′ : ℕ → ℕ → Bool) where
         (λ x m. ap (λ (k : ℕ). eqb k (suc (suc (suc r)))) (count-same C x (h x m))))
 
     choose-same : choose row deg C E s lab n ≡ choose row′ deg′ C E s lab n
-    choose-same = ap (chooseAt row deg C E s lab n) (least-pos (count row C) (count row′ C) E (λ x m. count-same C x (h x m))) ∙ choose-at (leastPos (count row′ C) E)
+    choose-same = ap (chooseAt row deg C E s lab n) (least-alike (count row C) (count row′ C) E (λ x m. count-same C x (h x m))) ∙ choose-at (leastPos (count row′ C) E)
 
   lose-col : (rest : List ℕ) (c : ℕ) (ys s : List ℕ) → SameOn ys → loseCol row rest c ys s ≡ loseCol row′ rest c ys s
   lose-col rest c [] s h = refl

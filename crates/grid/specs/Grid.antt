@@ -3,8 +3,7 @@
 --   Under n xs        every number of xs is below n
 --   Rows l n ys       every row of ys lies within n bytes
 --   Figures f n xs    xs has n entries, and entry x is f x
---   to-go, gone       the list from a place on: its first, and the others; nothing from its end on
---   row-within        row x of m rows lies within them
+--   gone              nothing is left of a list from its end on
 --   Counting          n ones of row x are counted in the first k columns of v
 --   count-start, count-one, count-none, count-end   that begins, passes a one, passes a column without, is over
 --   Filled            the figures below i are in place
@@ -12,19 +11,18 @@
 --   fill-row          the row of the next figure lies within the matrix
 --   in-under          a member of a list whose numbers are all below m is below m
 -- Assumes nothing.
-use mathlib.Core.Path.{_≡_, refl, sym, ap, _∙_, subst}
-use mathlib.Core.Logic.{_⊎_, inl, inr, ⊎-elim}
+use mathlib.Core.Path.{_≡_, refl, _∙_}
+use mathlib.Core.Logic.{inl, inr}
 use mathlib.Core.List.{List, [], _∷_}
 use mathlib.Core.Bool.{Bool, true, false}
-use Prim.Native.Nat.{ℕ, zero, suc, _+_, _*_, _-_, _≤_, _<_}
-use native.Mathlib.Nat.{mul-le-mul-right, suc-mul}
-use native.Mathlib.Numerals.{add-one}
+use Prim.Native.Nat.{ℕ, suc, _+_, _*_, _-_, _≤_, _<_}
 use native.Mathlib.Omega.{arith}
 use lib.ListN.{length, getD, set, drop, length-set, drop-of-length-le}
-use lib.Seq.{drop-cons, drop-length, getD-set-same, getD-set-other}
+use lib.Seq.{getD-set-same, getD-set-other}
 use lib.Dec.{eqb}
 use borrow.Author.Count.{below-more}
-use Rattle.rule.specs.Lists.{In, filter, keep}
+use Rattle.loops.specs.Part.{drop-next, row-within}
+use Rattle.rule.specs.Lists.{In}
 use Rattle.rule.specs.Permitted.{count}
 
 unfoldable pub bit : ℕ → List ℕ → ℕ → ℕ → Bool
@@ -40,15 +38,8 @@ pub record Figures (f : ℕ → ℕ) (n : ℕ) (xs : List ℕ) : Type 0 where
   pub long : length xs ≡ n
   pub each : (x : ℕ) → x < n → getD xs x 0 ≡ f x
 
-pub to-go : (ys : List ℕ) (k : ℕ) → k < length ys → drop k ys ≡ getD ys k 0 ∷ drop (k + 1) ys
-to-go ys k h = rw (add-one, drop-cons ys k 0) refl
-
 pub gone : (ys : List ℕ) (k : ℕ) → length ys ≤ k → drop k ys ≡ []
 gone ys k h = drop-of-length-le ys h
-
--- row x of m rows lies within them
-pub row-within : (l m x : ℕ) → x < m → x * l + l ≤ m * l
-row-within l m x h = subst (λ (n : ℕ). n ≤ m * l) (suc-mul x l) (mul-le-mul-right l h)
 
 -- n ones of row x are counted in the first k columns of v
 pub record Counting (row : ℕ → ℕ → Bool) (x : ℕ) (v : List ℕ) (n k : ℕ) : Type 0 where
@@ -62,12 +53,12 @@ count-start = record { within = omega arith; few = omega arith; left = omega ari
 module _ {row : ℕ → ℕ → Bool} {x : ℕ} {v : List ℕ} {n k : ℕ} where
   pub count-one : Counting row x v n k → k < length v → row x (getD v k 0) ≡ true → Counting row x v (n + 1) (k + 1)
   count-one c h e =
-      let s : count row (drop k v) x ≡ count row (drop (k + 1) v) x + 1 = rw (to-go v k h, e) (omega arith) in
+      let s : count row (drop k v) x ≡ count row (drop (k + 1) v) x + 1 = rw (drop-next v k h, e) (omega arith) in
       record { within = omega arith; few = omega (arith, c .few); left = omega (arith, c .left) }
 
   pub count-none : Counting row x v n k → k < length v → row x (getD v k 0) ≡ false → Counting row x v n (k + 1)
   count-none c h e =
-      let s : count row (drop k v) x ≡ count row (drop (k + 1) v) x = rw (to-go v k h, e) in
+      let s : count row (drop k v) x ≡ count row (drop (k + 1) v) x = rw (drop-next v k h, e) in
       record { within = omega arith; few = omega (arith, c .few); left = omega (arith, c .left) }
 
   pub count-end : Counting row x v n k → length v ≤ k → n ≡ count row v x

@@ -13,15 +13,16 @@
 use mathlib.Core.Path.{_≡_, refl, sym, ap, subst, _∙_}
 use mathlib.Core.Logic.{_⊎_, inl, inr, ⊎-elim}
 use mathlib.Core.Bool.{Bool, true, false, cond, not, _&&_, _||_}
-use mathlib.Core.List.{List, [], _∷_}
+use mathlib.Core.List.{List}
 use Prim.Native.Nat.{ℕ, zero, suc, _+_, _<_, _≤_}
 use native.Mathlib.Omega.{arith}
-use lib.ListN.{length, getD, set, length-set, List·getD-eq-default}
+use lib.ListN.{length, set, length-set, List·getD-eq-default}
 use lib.Seq.{getD-set-same, getD-set-other}
 use lib.Dec.{eqb, ltb}
 use borrow.Author.Tests.{eqb-true, eqb-false, eq-eqb, ne-eqb, lt-ltb, le-ltb, ltb-true, ltb-false}
+use Rattle.rule.specs.Labels.{or-l, or-r}
 use Rattle.rule.specs.Rule.{joint, nextLabel, relabel, touched}
-use Rattle.rule.specs.Sets.{bool-or, tf}
+use Rattle.rule.specs.Sets.{bool-or}
 use Rattle.labels.specs.Labs.{labs, hit}
 
 pub joint-new : (a b n : ℕ) → a ≡ 0 → b ≡ 0 → n ≡ joint a b n
@@ -61,13 +62,6 @@ next-first (suc a) b n f = refl
 
 or-both : (a b : Bool) → a ≡ false → b ≡ false → (a || b) ≡ false
 or-both a b e f = rw (e, f)
-
-or-one : (a b : Bool) → a ≡ true → (a || b) ≡ true
-or-one a b e = rw e
-
-or-two : (a b : Bool) → b ≡ true → (a || b) ≡ true
-or-two true b e = refl
-or-two false b e = e
 
 and-left : (a b : Bool) → a ≡ false → (a && b) ≡ false
 and-left a b e = rw e
@@ -128,10 +122,10 @@ part-end l₀ n p q l c hp hq h e k = cases (bool-or (ltb k c))
 
 -- the test, as the code makes it
 pub hit-p : (c p q v a b : ℕ) → c ≡ p → true ≡ hit c p q v a b
-hit-p c p q v a b e = sym (or-one (eqb c p || eqb c q) _ (or-one (eqb c p) _ (eq-eqb c p e)))
+hit-p c p q v a b e = sym (or-l (eqb c p || eqb c q) _ (or-l (eqb c p) _ (eq-eqb c p e)))
 
 pub hit-q : (c p q v a b : ℕ) → (c ≡ p → ⊥) → c ≡ q → true ≡ hit c p q v a b
-hit-q c p q v a b d e = sym (or-one (eqb c p || eqb c q) _ (or-two (eqb c p) _ (eq-eqb c q e)))
+hit-q c p q v a b d e = sym (or-l (eqb c p || eqb c q) _ (or-r (eqb c p) _ (eq-eqb c q e)))
 
 pub hit-none : (c p q v a b : ℕ) → (c ≡ p → ⊥) → (c ≡ q → ⊥) → v ≡ 0 → false ≡ hit c p q v a b
 hit-none c p q v a b d f e =
@@ -141,7 +135,7 @@ hit-rest : (c p q v a b : ℕ) → (c ≡ p → ⊥) → (c ≡ q → ⊥) → (
 hit-rest c p q v a b d f e = rw (ne-eqb c p d, ne-eqb c q f, ne-eqb v 0 e)
 
 pub hit-a : (c p q v a b : ℕ) → (c ≡ p → ⊥) → (c ≡ q → ⊥) → (v ≡ 0 → ⊥) → v ≡ a → true ≡ hit c p q v a b
-hit-a c p q v a b d f e g = sym (hit-rest c p q v a b d f e ∙ or-one (eqb v a) _ (eq-eqb v a g))
+hit-a c p q v a b d f e g = sym (hit-rest c p q v a b d f e ∙ or-l (eqb v a) _ (eq-eqb v a g))
 
 pub hit-b : (c p q v a b : ℕ) → (c ≡ p → ⊥) → (c ≡ q → ⊥) → (v ≡ 0 → ⊥) → (v ≡ a → ⊥) → eqb v b ≡ hit c p q v a b
 hit-b c p q v a b d f e g = sym (hit-rest c p q v a b d f e ∙ ap (λ (t : Bool). t || eqb v b) (ne-eqb v a g))

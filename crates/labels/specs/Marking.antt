@@ -21,7 +21,7 @@
 --   add-pairs-append    two lists of rows, joined one after the other
 --   Noting              a loop over the columns that leave, of which each has its noted rows joined
 --   note-start, note-next, note-end   it begins, makes a turn, is over
---   rest-is, under-rest   the part of a list from a place on, as a slice has it; its numbers keep the bound of the list
+--   under-rest   the part of a list from a place on, as a slice has it, keeps the bound of the list
 --   row-marked          a row whose ones are the pair is joined where the pair is
 --   ready-next          one more than the next label fits 64 bits
 --   has-label           a column of v is below the number of labels
@@ -34,14 +34,16 @@ use mathlib.Core.Bool.{Bool, true, false, cond, not, _&&_, _||_}
 use Prim.Native.Nat.{ℕ, zero, suc, _+_, _-_, _^_, _≤_, _<_}
 use native.Mathlib.Omega.{arith}
 use lib.ListN.{length, getD, take, drop, length-drop}
-use lib.Seq.{take-length, getD-drop}
+use lib.Seq.{getD-drop}
 use lib.Dec.{eqb, ltb}
-use borrow.Author.Tests.{eqb-true, eqb-false, eq-eqb, ne-eqb, ltb-true, ltb-false}
+use borrow.Author.Tests.{eqb-true, eq-eqb, ne-eqb, ltb-true, ltb-false}
+use Rattle.rule.specs.Labels.{joint-pos}
+use Rattle.loops.specs.Part.{drop-next, rest-part}
 use Rattle.rule.specs.Lists.{filter, keep}
-use Rattle.rule.specs.Sets.{bool-or, tf}
+use Rattle.rule.specs.Sets.{bool-or}
 use Rattle.rule.specs.Permitted.{ones, count}
 use Rattle.rule.specs.Rule.{joint, nextLabel, relabel, touched, Marks, addPair, addPairs}
-use Rattle.grid.specs.Grid.{to-go, gone, Under}
+use Rattle.grid.specs.Grid.{gone, Under}
 use Rattle.labels.specs.Labs.{labs}
 
 abbrev pub marksOf : List ℕ → ℕ → Marks
@@ -88,13 +90,6 @@ zeros-fewer [] b p e l h n z = absurd (omega arith)
 zeros-fewer (x ∷ a) [] p e l h n z = absurd (omega arith)
 zeros-fewer (x ∷ a) (y ∷ b) zero e l h n z = omega (arith, free-gone x y n z, zeros-less a b (omega arith) (λ c. h (suc c)))
 zeros-fewer (x ∷ a) (y ∷ b) (suc p) e l h n z = omega (arith, free-less x y (h 0), zeros-fewer a b p (omega arith) (omega arith) (λ c. h (suc c)) n z)
-
-joint-pos : (a b n : ℕ) → 0 < n → joint a b n ≡ 0 → ⊥
-joint-pos zero zero n h e = omega arith
-joint-pos zero (suc b) n h e = omega arith
-joint-pos (suc a) zero n h e = omega arith
-joint-pos (suc a) (suc b) n h e = ⊎-elim (λ t. let w : suc b ≡ 0 = ap (λ (z : Bool). cond z (suc b) (suc a)) (sym t) ∙ e in omega arith)
-    (λ t. let w : suc a ≡ 0 = ap (λ (z : Bool). cond z (suc b) (suc a)) (sym t) ∙ e in omega arith) (bool-or (ltb b a))
 
 joint-low : (a b n : ℕ) → a < n → b < n → joint a b n < nextLabel a b n
 joint-low zero zero n h k = omega arith
@@ -167,12 +162,12 @@ seek-start h = record { upto = h; same = refl }
 
 module _ {p : ℕ → Bool} {v : List ℕ} {k i : ℕ} (h : Seeking p v k i) where
   pub seek-next : i < length v → p (getD v i 0) ≡ false → Seeking p v k (i + 1)
-  seek-next l e = record { upto = omega arith; same = h .same ∙ ap (filter p) (to-go v i l) ∙ ap (λ (t : Bool). keep t (getD v i 0) (filter p (drop (i + 1) v))) e }
+  seek-next l e = record { upto = omega arith; same = h .same ∙ ap (filter p) (drop-next v i l) ∙ ap (λ (t : Bool). keep t (getD v i 0) (filter p (drop (i + 1) v))) e }
 
   pub seek-hit : i < length v → p (getD v i 0) ≡ true → Next p v k i
   seek-hit l e = record {
     upto = h .upto;
-    hit = λ _. h .same ∙ ap (filter p) (to-go v i l) ∙ ap (λ (t : Bool). keep t (getD v i 0) (filter p (drop (i + 1) v))) e;
+    hit = λ _. h .same ∙ ap (filter p) (drop-next v i l) ∙ ap (λ (t : Bool). keep t (getD v i 0) (filter p (drop (i + 1) v))) e;
     none = λ g. absurd (omega arith);
   }
 
@@ -233,7 +228,7 @@ module _ {row : ℕ → ℕ → Bool} {C : List ℕ} {p : ℕ → Bool} {ys l₀
     ready = d .ready;
     left = ap (λ (m : Marks). addPairs row C m (filter p (drop (k + 1) ys))) (d .is)
         ∙ ap (λ (t : Bool). addPairs row C (marksOf l n) (keep t (getD ys k 0) (filter p (drop (k + 1) ys)))) (sym e)
-        ∙ ap (λ (z : List ℕ). addPairs row C (marksOf l n) (filter p z)) (sym (to-go ys k i)) ∙ h .left;
+        ∙ ap (λ (z : List ℕ). addPairs row C (marksOf l n) (filter p z)) (sym (drop-next ys k i)) ∙ h .left;
   }
 
   pub join-skip : k < length ys → p (getD ys k 0) ≡ false → Joining row C p ys l₀ n₀ (k + 1) l n
@@ -243,7 +238,7 @@ module _ {row : ℕ → ℕ → Bool} {C : List ℕ} {p : ℕ → Bool} {ys l₀
     few = h .few;
     ready = h .ready;
     left = ap (λ (t : Bool). addPairs row C (marksOf l n) (keep t (getD ys k 0) (filter p (drop (k + 1) ys)))) (sym e)
-        ∙ ap (λ (z : List ℕ). addPairs row C (marksOf l n) (filter p z)) (sym (to-go ys k i)) ∙ h .left;
+        ∙ ap (λ (z : List ℕ). addPairs row C (marksOf l n) (filter p z)) (sym (drop-next ys k i)) ∙ h .left;
   }
 
   pub join-end : length ys ≤ k → Marked (addPairs row C (marksOf l₀ n₀) (filter p ys)) l₀ n₀ l n
@@ -314,7 +309,7 @@ module _ {row : ℕ → ℕ → Bool} {C fig qs ys l₀ l : List ℕ} {n₀ k n 
     ready = d .ready;
     left = ap (λ (m : Marks). addPairs row C m (notedBy row fig (drop (k + 1) qs) ys)) (d .is ∙ ap (λ (z : List ℕ). addPairs row C (marksOf l n) (filter (isNoted row fig (getD qs k 0) z) ys)) r)
         ∙ sym (add-pairs-append row C (marksOf l n) (filter (isNoted row fig (getD qs k 0) (drop (k + 1) qs)) ys) (notedBy row fig (drop (k + 1) qs) ys))
-        ∙ ap (λ (z : List ℕ). addPairs row C (marksOf l n) (notedBy row fig z ys)) (sym (to-go qs k i)) ∙ h .left;
+        ∙ ap (λ (z : List ℕ). addPairs row C (marksOf l n) (notedBy row fig z ys)) (sym (drop-next qs k i)) ∙ h .left;
   }
 
   pub note-end : length qs ≤ k → Marked (addPairs row C (marksOf l₀ n₀) (notedBy row fig qs ys)) l₀ n₀ l n
@@ -326,12 +321,8 @@ module _ {row : ℕ → ℕ → Bool} {C fig qs ys l₀ l : List ℕ} {n₀ k n 
     is = sym (ap (λ (z : List ℕ). addPairs row C (marksOf l n) (notedBy row fig z ys)) (gone qs k i)) ∙ h .left;
   }
 
--- the part of a list from j on, as a slice has it
-pub rest-is : (qs : List ℕ) (j : ℕ) → take (length qs - j) (drop j qs) ≡ drop j qs
-rest-is qs j = ap (λ (m : ℕ). take m (drop j qs)) (sym (length-drop j qs)) ∙ take-length (drop j qs)
-
 pub under-rest : {m : ℕ} (qs : List ℕ) (j : ℕ) → Under m qs → j ≤ length qs → Under m (take (length qs - j) (drop j qs))
-under-rest {m} qs j u h = rw rest-is (record { at = λ k i. subst (λ (z : ℕ). z < m) (sym (getD-drop j qs k 0)) (u .at (j + k) (omega (arith, length-drop j qs))) })
+under-rest {m} qs j u h = rw rest-part (record { at = λ k i. subst (λ (z : ℕ). z < m) (sym (getD-drop j qs k 0)) (u .at (j + k) (omega (arith, length-drop j qs))) })
 
 pub row-marked : (row : ℕ → ℕ → Bool) (v : List ℕ) {l₀ l : List ℕ} {n₀ n p q : ℕ} (y : ℕ) → ones row v y ≡ p ∷ q ∷ [] → Marked (addPair (marksOf l₀ n₀) (p ∷ q ∷ [])) l₀ n₀ l n
     → Marked (addPair (marksOf l₀ n₀) (ones row v y)) l₀ n₀ l n

@@ -5,13 +5,18 @@
 --   length-put    the length stays
 --   take-put, drop-put   what stands before the row, and after it, stays
 --   getD-put, getD-put-before, getD-put-after   an entry of the row's place is the row's; one before it or after it is m's
+--   drop-next     what is left from a place on: the entry there, and what is left after it
+--   rest-part     what is left from a place on, in the shape of a part
+--   row-within    row x of m rows of l entries lies within them
 -- Assumes nothing.
-use mathlib.Core.Path.{_≡_, sym, ap, ap₂, _∙_}
-use mathlib.Core.List.{List, _++_, append-assoc}
-use Prim.Native.Nat.{ℕ, _+_, _-_, _≤_, _<_}
+use mathlib.Core.Path.{_≡_, sym, ap, ap₂, subst, _∙_}
+use mathlib.Core.List.{List, _∷_, _++_, append-assoc}
+use Prim.Native.Nat.{ℕ, _+_, _-_, _*_, _≤_, _<_}
+use native.Mathlib.Nat.{suc-mul, mul-le-mul-right}
+use native.Mathlib.Numerals.{add-one}
 use native.Mathlib.Omega.{arith}
 use lib.ListN.{length, getD, take, drop, length-append, length-drop, List·getD-append}
-use lib.Seq.{length-take-le, take-at, drop-at, getD-append-add, getD-drop, getD-take, drop-drop}
+use lib.Seq.{length-take-le, take-at, drop-at, drop-cons, getD-append-add, getD-drop, getD-take, drop-drop, take-all}
 
 unfoldable pub part : ℕ → ℕ → List ℕ → List ℕ
 part a n m = take n (drop a m)
@@ -59,3 +64,12 @@ module _ (m : List ℕ) (a n : ℕ) (r : List ℕ) (h : a + n ≤ length m) (e :
       let q : a + n + (k - (a + n)) ≡ k = omega arith in
       ap (λ (x : ℕ). getD (put a n m r) x 0) (sym q) ∙ sym (getD-drop (a + n) (put a n m r) (k - (a + n)) 0)
       ∙ ap (λ (x : List ℕ). getD x (k - (a + n)) 0) drop-put ∙ getD-drop (a + n) m (k - (a + n)) 0 ∙ ap (λ (x : ℕ). getD m x 0) q
+
+pub drop-next : (xs : List ℕ) (k : ℕ) → k < length xs → drop k xs ≡ getD xs k 0 ∷ drop (k + 1) xs
+drop-next xs k h = rw (add-one, drop-cons xs k 0)
+
+pub rest-part : (xs : List ℕ) (k : ℕ) → take (length xs - k) (drop k xs) ≡ drop k xs
+rest-part xs k = take-all (length xs - k) (drop k xs) (rw length-drop (omega arith))
+
+pub row-within : (l m x : ℕ) → x < m → x * l + l ≤ m * l
+row-within l m x h = subst (λ (n : ℕ). n ≤ m * l) (suc-mul x l) (mul-le-mul-right l h)

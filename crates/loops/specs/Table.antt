@@ -3,7 +3,7 @@
 --   all n f, all-at       the test f passes at each number below n; hence at any of them
 --   every f i xs, every-at   the test f passes at each entry and its place, counted from i; hence at any place
 -- Assumes nothing.
-use mathlib.Core.Path.{_≡_, _∙_, subst, sym}
+use mathlib.Core.Path.{_∙_, subst, sym}
 use mathlib.Core.Logic.{⊎-elim}
 use mathlib.Core.Bool.{Bool, true, false}
 use mathlib.Core.List.{List, [], _∷_}

@@ -11,7 +11,7 @@
 use Prim.Native.Nat.{ℕ, zero, suc, _+_, _-_}
 use mathlib.Core.Path.{_≡_, refl}
 use mathlib.Core.Bool.{Bool, true, false}
-use mathlib.Core.List.{List, [], _++_}
+use mathlib.Core.List.{_++_}
 use Rattle.loops.specs.Loop.{forTo, up}
 use Rattle.loops.specs.Room.{notes, notes-append}
 use Rattle.loops.specs.Out.{Out, Run, done, at}

@@ -1,7 +1,7 @@
 -- The labels of columns before the first step: the pairs of V are joined, from the top; then a component's label is one more than its least column.
 --   isTwo               a row that has two ones, by the figures
 --   two-yes, two-no     the test, where the figure is two and where it is not
---   each-place, in-place   what holds at each place of a list holds of its members; an entry is a member
+--   each-in, in-place   what holds at each place of a list holds of its members; an entry is a member
 --   twos-are            such rows are those of the rule
 --   blank, blank-ready  a slice without labels: no column has one, and the next label is 1
 --   zeros-few           no more columns lack a label than there are columns
@@ -33,27 +33,27 @@
 use mathlib.Core.Path.{_≡_, refl, sym, ap, ap₂, subst, fun-ext, _∙_}
 use mathlib.Core.Logic.{_⊎_, inl, inr, ⊎-elim}
 use mathlib.Core.List.{List, [], _∷_, _++_}
-use mathlib.Core.Bool.{Bool, true, false, cond, not, _&&_, _||_}
-use mathlib.Core.Option.{Option, some, none}
+use mathlib.Core.Bool.{Bool, true, false, cond}
+use mathlib.Core.Option.{none}
 use Prim.Native.Nat.{ℕ, zero, suc, _+_, _-_, _^_, _≤_, _<_}
 use native.Mathlib.Numerals.{add-one}
 use native.Mathlib.Omega.{arith}
 use lib.ListN.{length, getD, set, length-set, List·getD-eq-default}
 use lib.Seq.{getD-set-same, getD-set-other, set-getD}
-use lib.Dec.{eqb, ltb}
+use lib.Dec.{eqb}
 use borrow.Author.Count.{below-more}
 use borrow.Author.Tests.{eqb-true, eqb-false, eq-eqb, ne-eqb}
+use Rattle.phases.specs.Matrix.{getD-range, in-range}
 use Rattle.rule.specs.Lists.{In, filter, keep, head}
-use Rattle.rule.specs.Sets.{bool-or, in-filter}
+use Rattle.rule.specs.Sets.{bool-or, in-filter, each-in}
 use Rattle.rule.specs.Permitted.{ones, count}
-use Rattle.rule.specs.Rule.{Marks, joint, touched, relabel, addPair, addPairs, numberOf, byLeast, rawMarks, firstMarks}
+use Rattle.rule.specs.Rule.{Marks, joint, touched, addPair, addPairs, numberOf, byLeast, rawMarks, firstMarks}
 use Rattle.rule.specs.Alike.{filter-alike}
 use Rattle.grid.specs.Grid.{bit, Under, Rows, Figures}
 use Rattle.labels.specs.Labs.{labs}
 use Rattle.labels.specs.Marking.{marksOf, zeros, Ready, Marked, Right}
 use Rattle.phases.specs.System.{range}
 use Rattle.phases.specs.Fit.{less?}
-use Rattle.opening.specs.Rows.{getD-range}
 
 -- the rows to be joined
 unfoldable pub isTwo : List ℕ → ℕ → Bool
@@ -67,20 +67,10 @@ pub two-no : (fig : List ℕ) (y : ℕ) → (getD fig y 0 ≡ 2 → ⊥) → isT
 unfolding isTwo
 two-no fig y e = ne-eqb (getD fig y 0) 2 e
 
-pub each-place : (P : ℕ → Type 0) (l : List ℕ) → ((k : ℕ) → k < length l → P (getD l k 0)) → (x : ℕ) → In x l → P x
-each-place P [] h x m = absurd m
-each-place P (a ∷ l) h x (inl e) = subst P (sym e) (h 0 (omega arith))
-each-place P (a ∷ l) h x (inr m) = each-place P l (λ k i. h (suc k) (omega arith)) x m
-
-pub in-place : (l : List ℕ) (k : ℕ) → k < length l → In (getD l k 0) l
-in-place [] k h = absurd (omega arith)
-in-place (a ∷ l) zero h = inl refl
-in-place (a ∷ l) (suc k) h = inr (in-place l k (omega arith))
-
 pub twos-are : (row : ℕ → ℕ → Bool) (C ys fig : List ℕ) → Right row C ys fig → filter (isTwo fig) ys ≡ filter (λ x. eqb (count row C x) 2) ys
 unfolding isTwo
 twos-are row C ys fig r =
-    filter-alike (isTwo fig) (λ x. eqb (count row C x) 2) ys (λ y m. ap (λ (n : ℕ). eqb n 2) (each-place (λ y. getD fig y 0 ≡ count row C y) ys (r .at) y m))
+    filter-alike (isTwo fig) (λ x. eqb (count row C x) 2) ys (λ y m. ap (λ (n : ℕ). eqb n 2) (each-in (λ y. getD fig y 0 ≡ count row C y) ys (r .at) y m))
 
 -- no column has a label
 pub blank : {n : ℕ} {l : List ℕ} → Figures (λ _. 0) n l → (c : ℕ) → labs l c ≡ 0
@@ -316,18 +306,13 @@ pub record Numbered (w : ℕ) (l₀ l : List ℕ) : Type 0 where
   pub kept : length l ≡ length l₀
   pub each : (c : ℕ) → labs l c ≡ byLeast (range 0 w) (labs l₀) c
 
-not-in-range : (a k c : ℕ) → In c (range a k) → (a ≤ c) × (c < a + k)
-not-in-range a zero c h = absurd h
-not-in-range a (suc k) c (inl e) = (omega arith, omega arith)
-not-in-range a (suc k) c (inr h) = let r = not-in-range (suc a) k c h in (omega (arith, r .0), omega (arith, r .1))
-
 pub number-end : {w room c : ℕ} {l₀ l r : List ℕ} → Numbering (labs l₀) w (length l₀) room c l r → w ≤ c → Outside (labs l₀) (range 0 w) → Numbered w l₀ l
 number-end {w} {room} {c} {l₀} {l} n h o = record { kept = n .kept; each = λ k. at k (less? k c) }
   where
     at : (k : ℕ) → (k < c) ⊎ (c ≤ k) → labs l k ≡ byLeast (range 0 w) (labs l₀) k
     at k (inl i) = n .done k i
     at k (inr i) =
-        let z : labs l₀ k ≡ 0 = o .none k (λ m. omega (arith, not-in-range 0 w k m .1)) in
+        let z : labs l₀ k ≡ 0 = o .none k (λ m. omega (arith, in-range 0 w k m .1)) in
         n .left k i ∙ z ∙ sym (by-least-none (labs l₀) w k z)
 
 -- e is the eligible rows, v the columns below its length, fig each row's ones in v; `long` columns have labels, and `room` entries are lent

@@ -11,9 +11,9 @@
 --   opened-state, begins    they are the definition's first state
 -- Assumes nothing.
 use mathlib.Core.Path.{_≡_, refl, sym, ap, ap₂, subst, _∙_}
-use mathlib.Core.Logic.{_⊎_, inl, inr, ⊎-elim}
+use mathlib.Core.Logic.{_⊎_, inl, inr}
 use mathlib.Core.List.{List, [], _∷_, _++_}
-use mathlib.Core.Bool.{Bool, true, false}
+use mathlib.Core.Bool.{Bool}
 use Prim.Native.Nat.{ℕ, zero, suc, _+_, _-_, _*_, _≤_, _<_}
 use native.Mathlib.Nat.{mul-le-mul-right}
 use native.Mathlib.Omega.{arith}
@@ -21,22 +21,22 @@ use lib.ListN.{length, getD, take, drop, length-append, List·getD-eq-default}
 use lib.Seq.{take-at}
 use lib.Dec.{eqb}
 use borrow.Author.Tests.{eqb-true}
+use Rattle.loops.specs.Part.{row-within}
 use Rattle.rule.specs.Lists.{In, Nodup, filter}
-use Rattle.rule.specs.Sets.{in-filter, nodup-filter}
-use Rattle.rule.specs.Permitted.{ones, count}
-use Rattle.rule.specs.Rule.{State, Marks, start, firstSingles, firstMarks}
+use Rattle.rule.specs.Sets.{in-filter, nodup-filter, in-at}
+use Rattle.rule.specs.Permitted.{count}
+use Rattle.rule.specs.Rule.{Marks, start, firstSingles, firstMarks}
 use Rattle.rule.specs.Alike.{filter-alike}
-use Rattle.grid.specs.Grid.{bit, Under, Rows, Figures, row-within, in-under}
-use Rattle.singles.specs.Facts.{Kept}
+use Rattle.grid.specs.Grid.{bit, Under, Figures}
 use Rattle.singles.specs.Figures.{Held, Sound}
-use Rattle.labels.specs.Marking.{marksOf, zeros, Ready, Right}
+use Rattle.labels.specs.Marking.{marksOf, zeros, Ready}
 use Rattle.phases.specs.System.{Shape, range, first-rows, octet-rows}
-use Rattle.phases.specs.One.{one, begin}
+use Rattle.phases.specs.One.{begin}
 use Rattle.phases.specs.Matrix.{length-range}
-use Rattle.phases.specs.Occ.{occ, occ-append, in-member, once-nodup}
+use Rattle.phases.specs.Occ.{occ-append, in-member, once-nodup}
 use Rattle.phases.specs.Fit.{rows-once, rows-below, less?}
 use Rattle.opening.specs.Rows.{rowsAtFirst, rows-at-first}
-use Rattle.opening.specs.Marks.{Given, FirstMarked, zeros-few, under-range, each-place, in-place}
+use Rattle.opening.specs.Marks.{Given, FirstMarked, zeros-few, under-range}
 
 abbrev pub shape : ℕ → ℕ → ℕ → ℕ → ℕ → Shape
 shape m l s h w = record { m = m; n = l; s = s; h = h; w = w }
@@ -165,7 +165,7 @@ lent-at z bits {c} {d} {fig} {deg} {s} {labels} {sizes} o =
     record {
       columns = ap (range 0) (sym w);
       within = omega (arith, o .cols-fit);
-      rows = record { at = λ k i. omega (arith, o .figured, rows-low z (o .rows-fit) (getD (first-rows z) k 0) (in-place (first-rows z) k i)) };
+      rows = record { at = λ k i. omega (arith, o .figured, rows-low z (o .rows-fit) (getD (first-rows z) k 0) (in-at (first-rows z) k i)) };
       matrix = omega (arith, o .matrix, ap (λ (i : ℕ). i * z .n) (o .figured));
       measured = omega (arith, o .matrix, ap (λ (i : ℕ). i * z .n) (o .measured));
       singles = omega (arith, o .single);

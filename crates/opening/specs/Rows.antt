@@ -9,9 +9,9 @@
 --   exchange-start, exchange-next, exchange-within, exchange-end   that begins, makes a turn, stays within the rows, is over
 -- Assumes nothing.
 use mathlib.Core.Path.{_≡_, refl, sym, ap, subst, _∙_}
-use mathlib.Core.Logic.{_⊎_, inl, inr, ⊎-elim, _≢_}
-use mathlib.Core.List.{List, [], _∷_, _++_, append-assoc}
-use Prim.Native.Nat.{ℕ, zero, suc, _+_, _-_, _≤_, _<_}
+use mathlib.Core.Logic.{_⊎_, inl, inr}
+use mathlib.Core.List.{List, _++_, append-assoc}
+use Prim.Native.Nat.{ℕ, _+_, _-_, _≤_, _<_}
 use native.Mathlib.Omega.{arith}
 use lib.ListN.{length, getD, set, length-set, length-append, List·getD-append}
 use lib.Seq.{getD-set-same, getD-set-other, getD-append-add, ext-getD}
@@ -19,13 +19,8 @@ use borrow.Author.Count.{below-more}
 use Rattle.loops.specs.Front.{Front}
 use Rattle.columns.specs.Exchange.{swapped, length-swapped}
 use Rattle.phases.specs.System.{Shape, range, first-rows, octet-rows}
-use Rattle.phases.specs.Matrix.{length-range}
+use Rattle.phases.specs.Matrix.{length-range, getD-range}
 use Rattle.phases.specs.Fit.{less?}
-
-pub getD-range : (a k j : ℕ) → j < k → getD (range a k) j 0 ≡ a + j
-getD-range a zero j h = absurd (omega arith)
-getD-range a (suc k) zero h = omega arith
-getD-range a (suc k) (suc j) h = getD-range (suc a) k j (omega arith) ∙ omega arith
 
 -- a loop that writes each place's number
 pub number-at : (n : ℕ) {k : ℕ} {d l : List ℕ} → Front (range 0 n) d l k → k < length l → k ≡ getD (range 0 n) k 0

@@ -25,13 +25,14 @@ use native.Mathlib.Omega.{arith}
 use borrow.Author.Tests.{leb-true, ltb-true, eqb-true, eqb-false, le-leb, lt-ltb, le-ltb, eq-eqb, ne-eqb, not-true}
 use lib.Dec.{leb, ltb, eqb}
 use lib.ListN.{length, getD, drop, drop-of-length-le}
+use Rattle.loops.specs.Part.{drop-next}
 use Rattle.oplist.specs.declared.Op.{Op}
 use Rattle.oplist.specs.declared.Op.the-variants.{AddAssign, MulAssign, FMA}
 use Rattle.oplist.specs.declared.Word.{Word}
 use Rattle.oplist.specs.declared.Word.the-variants.{Known, Unknown}
 use Rattle.oplist.specs.Ops.{Within, Apart, Nonzero, Each}
 use Rattle.oplist.specs.Word.{meaning}
-use Rattle.oplist.specs.Listed.{isKnown, withOp, known, opsOf, opsOf-drop, drop-next}
+use Rattle.oplist.specs.Listed.{isKnown, withOp, known, opsOf, opsOf-drop}
 use Rattle.oplist.specs.Check.{mostRows, mostOps, shapeFine, twoRows, opFine, wordFine, listFine, has, rowsFine, orderFine, opUndoable, wordUndoable, undoable}
 
 pub never : {A : Type 0} → false ≡ true → A

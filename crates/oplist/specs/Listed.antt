@@ -7,7 +7,6 @@
 --   packed-opsOf, length-opsOf             known words are those of the list that they say, as many
 --   room-says                 a list that was recorded and fits stands at the front of its room
 --   small-opsOf               what words say has fields that fit
---   drop-next                 what is left from a place on is the entry there, and what is left from the next on
 -- Assumes nothing.
 use Prim.Native.Nat.{ℕ, suc, _+_, _≤_, _<_}
 use mathlib.Core.Path.{_≡_, refl, sym, ap, ap₂, _∙_}
@@ -16,7 +15,8 @@ use mathlib.Core.List.{List, [], _∷_, _++_, map}
 use native.Mathlib.Numerals.{add-one}
 use native.Mathlib.Omega.{arith}
 use lib.ListN.{length, getD, take, drop, length-map}
-use lib.Seq.{drop-cons, take-suc, take-at, sets-eq}
+use lib.Seq.{take-suc, take-at, sets-eq}
+use Rattle.loops.specs.Part.{drop-next}
 use Rattle.loops.specs.Room.{Log, log, puts, puts-fit}
 use Rattle.oplist.specs.declared.Op.{Op}
 use Rattle.oplist.specs.declared.Word.{Word}
@@ -40,9 +40,6 @@ known (w ∷ ws) = isKnown (meaning w) && known ws
 unfoldable pub opsOf : List ℕ → List Op
 opsOf [] = []
 opsOf (w ∷ ws) = withOp (meaning w) (opsOf ws)
-
-pub drop-next : (ws : List ℕ) (k : ℕ) → k < length ws → drop k ws ≡ getD ws k 0 ∷ drop (k + 1) ws
-drop-next ws k h = rw (add-one, drop-cons ws k 0)
 
 pub opsOf-append : (a b : List ℕ) → opsOf (a ++ b) ≡ opsOf a ++ opsOf b
 unfolding opsOf

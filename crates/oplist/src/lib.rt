@@ -4,6 +4,7 @@ ghost use Prim.Native.Nat.{_<_};
 ghost use lib.ListN.{drop};
 ghost use Rattle.loops.specs.Room.{log, put};
 ghost use Rattle.oplist.specs.Word.{word, Small, packed, meaning};
+ghost use Rattle.oplist.specs.Multiple.{multiple};
 ghost use Rattle.oplist.specs.Listed.{opsOf};
 ghost use Rattle.oplist.specs.Count.{adds, muls, wordAdds, wordMuls};
 ghost use Rattle.oplist.specs.Check.{shapeFine, twoRows, opFine, wordFine, listFine, has, rowsFine, orderFine, wordUndoable, undoable};
@@ -75,6 +76,16 @@ pub fn unpack(w: u64) -> Word
         return Word::Known(Op::FMA(dest, src, scalar));
     }
     Word::Unknown
+}
+
+// The operation that adds c times row x to row y.
+pub fn multiple_of(c: u8, y: usize, x: usize) -> Op
+    ensures { λ r. ⌜ r ≡ multiple c y x ⌝ }
+{
+    if c == 1 {
+        return Op::AddAssign(y, x);
+    }
+    Op::FMA(y, x, c)
 }
 
 // One operation more in a room that holds n, or n one above the room where it has no place.

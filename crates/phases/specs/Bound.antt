@@ -21,14 +21,13 @@ use lib.Seq.{length-take-le}
 use Rattle.loops.specs.Out.{Out}
 use Rattle.loops.specs.Way.{Way, go, halt}
 use Rattle.oplist.specs.declared.Op.{Op}
-use Rattle.oplist.specs.Ops.{dest}
 use Rattle.algebra.specs.Rows.{runs}
 use Rattle.rule.specs.Lists.{In, keep, filter}
 use Rattle.rule.specs.Sets.{sub-length, in-filter, nodup-filter}
 use Rattle.phases.specs.System.{Shape, range, octet-rows}
 use Rattle.phases.specs.One.{Step, Phase, rows-of, pivots-of, entry, clears, ops-one, phase-one}
 use Rattle.phases.specs.Two.{at, scaled, backward, Second, acts, working, forward}
-use Rattle.phases.specs.Rest.{has, keep-op, kept, last-first, gather, phase-four}
+use Rattle.phases.specs.Rest.{has, kept, last-first, gather, phase-four}
 use Rattle.phases.specs.Run.{whole, finish, second, refused, goes-on, defined}
 use Rattle.phases.specs.Occ.{tick, occ, tick-eq, tick-ne, occ-append, occ-range, Member, Once, in-member, member-in, once-nodup}
 use Rattle.phases.specs.Fit.{Fit, all-rows, rows-once, rows-below, cols-once, cols-below}

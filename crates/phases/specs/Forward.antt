@@ -1,5 +1,6 @@
 -- The definition's phase two is an elimination: each column gets the first row with a nonzero, or ends it.
 --   works-snoc, ops-two-snoc   one column more
+--   entry-multiple  what is recorded for a nonzero entry is a multiple of the row
 --   clears-alike    clearing depends only on the multiples of the rows that it clears
 --   Stage           phase two after some columns
 --   given-stage     a column that gets the first row with a nonzero leads to the next stage
@@ -7,6 +8,7 @@
 --   forward-ended   the definition ends so
 -- Assumes nothing.
 use mathlib.Core.Path.{_≡_, refl, sym, ap, ap₂, _∙_, subst}
+use mathlib.Core.Logic.{_≢_}
 use mathlib.Core.Bool.{Bool, true, false, not}
 use mathlib.Core.List.{List, [], _∷_, _++_, append-assoc, append-nil}
 use mathlib.Core.Option.{Option, some, none}
@@ -17,6 +19,7 @@ use lib.Dec.{eqb}
 use lib.ListN.{length, getD, take, drop}
 use lib.Seq.{take-suc}
 use borrow.Author.Tests.{eq-eqb, eqb-true}
+use Rattle.oplist.specs.Multiple.{multiple}
 use Rattle.loops.specs.Loop.{forTo, up}
 use Rattle.loops.specs.Out.{Out, done}
 use Rattle.loops.specs.Way.{Way, go, halt, bindWay, mapWay, after, forWay}
@@ -56,6 +59,12 @@ pivots-snoc [] t = refl
 pivots-snoc (s ∷ us) t = ap (λ (l : List ℕ). s .pivot ∷ l) (pivots-snoc us t)
 
 -- clearing reads only the rows that it clears
+pub entry-multiple : (c y x : ℕ) (os : List Op) → c ≢ 0 → entry c y x os ≡ multiple c y x ∷ os
+unfolding multiple
+entry-multiple zero y x os n = absurd (n refl)
+entry-multiple (suc zero) y x os n = refl
+entry-multiple (suc (suc c)) y x os n = refl
+
 pub clears-alike : (s s′ : ℕ → ℕ) (x : ℕ) (ys : List ℕ) → ((y : ℕ) → Member ys y → s y ≡ s′ y) → clears s x ys ≡ clears s′ x ys
 clears-alike s s′ x [] h = refl
 clears-alike s s′ x (y ∷ ys) h =

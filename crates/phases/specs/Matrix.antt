@@ -5,11 +5,14 @@
 --   acts-full, shows-acts   after operations it is full, and shows what they make of the matrix
 --   working-full, shows-working   so it is at first
 --   getD-map, length-range   an entry of a mapped list, and the length of a range
+--   getD-range, in-range     an entry of a range; a member lies within its bounds
+--   getD-map-range           an entry of a mapped range
 -- Assumes nothing.
 use mathlib.Core.Path.{_≡_, refl, sym, ap, _∙_, subst, fun-ext}
+use mathlib.Core.Logic.{inl, inr}
 use mathlib.Core.Bool.{Bool, true, false}
 use mathlib.Core.List.{List, [], _∷_, _++_, map}
-use Prim.Native.Nat.{ℕ, zero, suc, _+_, _<_}
+use Prim.Native.Nat.{ℕ, zero, suc, _+_, _≤_, _<_}
 use native.Mathlib.Nat.{not-suc-le-zero, suc-ne-zero, suc-inj, add-zero, zero-add}
 use native.Mathlib.Omega.{arith}
 use lib.Dec.{eqb}
@@ -21,6 +24,7 @@ use Rattle.octet.specs.Octet.{add, mul}
 use Rattle.oplist.specs.declared.Op.{Op}
 use Rattle.oplist.specs.declared.Op.the-variants.{AddAssign, MulAssign, FMA}
 use Rattle.oplist.specs.Ops.{dest, Each}
+use Rattle.rule.specs.Lists.{In}
 use Rattle.algebra.specs.Rows.{value, step, runs, column, run-append, run-local, Within}
 use Rattle.algebra.specs.Sums.{pick}
 use Rattle.phases.specs.System.{range}
@@ -125,14 +129,24 @@ pub length-range : (a k : ℕ) → length (range a k) ≡ k
 length-range a zero = refl
 length-range a (suc k) = ap suc (length-range (suc a) k)
 
-getD-rows : (f : ℕ → List ℕ) (a k j : ℕ) → j < k → getD (map f (range a k)) j [] ≡ f (a + j)
-getD-rows f a zero j l = absurd (not-suc-le-zero l)
-getD-rows f a (suc k) zero l = ap f (sym (add-zero a))
-getD-rows f a (suc k) (suc j) l = getD-rows f (suc a) k j (omega arith) ∙ ap f (omega arith)
+pub getD-range : (a k j : ℕ) → j < k → getD (range a k) j 0 ≡ a + j
+getD-range a zero j h = absurd (omega arith)
+getD-range a (suc k) zero h = omega arith
+getD-range a (suc k) (suc j) h = getD-range (suc a) k j (omega arith) ∙ omega arith
+
+pub in-range : (a k y : ℕ) → In y (range a k) → (a ≤ y) × (y < a + k)
+in-range a zero y h = absurd h
+in-range a (suc k) y (inl e) = (omega arith, omega arith)
+in-range a (suc k) y (inr h) = let r = in-range (suc a) k y h in (omega (arith, r .0), omega (arith, r .1))
+
+pub getD-map-range : {A : Type 0} (f : ℕ → A) (a k j : ℕ) (d : A) → j < k → getD (map f (range a k)) j d ≡ f (a + j)
+getD-map-range f a zero j d h = absurd (not-suc-le-zero h)
+getD-map-range f a (suc k) zero d h = ap f (sym (add-zero a))
+getD-map-range f a (suc k) (suc j) d h = getD-map-range f (suc a) k j d (omega arith) ∙ ap f (omega arith)
 
 module _ (A : ℕ → ℕ → ℕ) (m : ℕ) (cols : List ℕ) where
   row-at : (y : ℕ) → y < m → getD (working A m cols) y [] ≡ map (A y) cols
-  row-at y l = getD-rows (λ x. map (A x) cols) 0 m y l ∙ ap (λ (x : ℕ). map (A x) cols) (zero-add y)
+  row-at y l = getD-map-range (λ x. map (A x) cols) 0 m y [] l ∙ ap (λ (x : ℕ). map (A x) cols) (zero-add y)
 
   length-rows : (a k : ℕ) → length (map (λ x. map (A x) cols) (range a k)) ≡ k
   length-rows a zero = refl

@@ -6,16 +6,16 @@
 --   walk, ended  what is known of phase one at its end, and how the first part of phase two ends
 --   two-is, three-is   where every column got a row: the lists of phases two and three are those by step
 --   course       and the run is a course: legal steps that give every column a row
---   getD-by-column   an entry of a list by column is what stands beside the column
+--   length-by-column, getD-by-column   a list by column has an entry for each column, which is what stands beside the column
 -- Assumes nothing.
 use mathlib.Core.Path.{_≡_, refl, sym, ap, ap₂, _∙_, subst}
 use mathlib.Core.Bool.{Bool, true, false, cond}
 use mathlib.Core.List.{List, [], _∷_, _++_, map, append-assoc}
 use Prim.Native.Nat.{ℕ, zero, suc, _+_, _-_, _<_, _≤_}
-use native.Mathlib.Nat.{not-suc-le-zero, add-zero, zero-add}
+use native.Mathlib.Nat.{zero-add}
 use native.Mathlib.Omega.{arith}
 use lib.Dec.{eqb, lit<}
-use lib.ListN.{length, getD, take, drop, take-append-drop}
+use lib.ListN.{length, getD, take, drop, take-append-drop, length-map}
 use lib.Seq.{take-suc, take-length, length-take-le, getD-take, drop-cons}
 use Rattle.loops.specs.Out.{Out}
 use Rattle.loops.specs.Way.{Way, go, halt}
@@ -39,19 +39,17 @@ use Rattle.phases.specs.Solved.{Course, the-list, list-two, list-kept, r
 use Rattle.phases.specs.Kernel.{Halt, Value, chain, value-of, cols-of}
 use Rattle.phases.specs.Kernel as Ker
 use Rattle.phases.specs.Walk.{Walked, walked-end, zeros}
-use Rattle.phases.specs.Matrix.{Full, Shows, acts-full, shows-acts, working-full, shows-working}
+use Rattle.phases.specs.Matrix.{Full, Shows, acts-full, shows-acts, working-full, shows-working, length-range, getD-map-range}
 use Rattle.phases.specs.Forward.{Stage, Ended, forward-ended}
 use Rattle.phases.specs.ByPlace.{rows-join, pivots-join, length-pivots-of, backward-is, reversed-is, beside-more}
 use Rattle.phases.specs.Vector.{vals-of, length-vals, beside-value, chain-cols-are, substitution-is}
 
 -- lists by column
-getD-map-range : (f : ℕ → ℕ) (a k j : ℕ) → j < k → getD (map f (range a k)) j 0 ≡ f (a + j)
-getD-map-range f a zero j l = absurd (not-suc-le-zero l)
-getD-map-range f a (suc k) zero l = ap f (sym (add-zero a))
-getD-map-range f a (suc k) (suc j) l = getD-map-range f (suc a) k j (omega arith) ∙ ap f (omega arith)
+pub length-by-column : (n : ℕ) (c xs : List ℕ) → length (by-column n c xs) ≡ n
+length-by-column n c xs = length-map (range 0 n) (λ (q : ℕ). beside q c xs) ∙ length-range 0 n
 
 pub getD-by-column : (n : ℕ) (c xs : List ℕ) (j : ℕ) → j < n → getD (by-column n c xs) j 0 ≡ beside j c xs
-getD-by-column n c xs j l = getD-map-range (λ q. beside q c xs) 0 n j l ∙ ap (λ (q : ℕ). beside q c xs) (zero-add j)
+getD-by-column n c xs j l = getD-map-range (λ q. beside q c xs) 0 n j 0 l ∙ ap (λ (q : ℕ). beside q c xs) (zero-add j)
 
 getD-octets : (f : ℕ → ℕ) (a n : ℕ) → Octets f → Octets (λ j. getD (map f (range a n)) j 0)
 getD-octets f a zero h j = lit< tt

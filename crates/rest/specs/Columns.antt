@@ -2,7 +2,6 @@
 --   placed l c xs o      the room o whose first l entries are xs in the order of columns: entry c[p] is xs[p]
 --   Blank l o            the first l entries of o are zeros
 --   Ordering             what the order needs
---   length-by-column, getD-by-column   a list by column: it has an entry for each column, which is what stands beside the column
 --   length-placed        the room keeps its length
 --   placed-is            its two parts: the definition's `by-column`, and the rest of the room
 --   by-column-take       more entries than columns don't count
@@ -18,11 +17,12 @@ use mathlib.Core.List.{List, [], _∷_, _++_, map}
 use Prim.Native.Nat.{ℕ, zero, suc, _+_, _-_, _≤_, _<_}
 use native.Mathlib.Omega.{arith}
 use lib.Dec.{eqb}
-use lib.ListN.{length, getD, set, take, drop, length-append, length-drop, length-set, length-map, take-append-drop, List·getD-append}
+use lib.ListN.{length, getD, set, take, drop, length-append, length-drop, length-set, take-append-drop, List·getD-append}
 use lib.Seq.{set-append-left, drop-set-lt, getD-set-same, getD-set-other, getD-take, getD-drop, length-take-le, ext-getD, drop-length}
 use borrow.Author.Tests.{eqb-true, eqb-false, eq-eqb, ne-eqb}
+use Rattle.phases.specs.Means.{length-by-column, getD-by-column}
+use Rattle.loops.specs.Part.{drop-next}
 use Rattle.oplist.specs.Facts.{Rows}
-use Rattle.oplist.specs.Listed.{drop-next}
 use Rattle.grid.specs.Grid.{Under}
 use Rattle.phases.specs.System.{range}
 use Rattle.phases.specs.Rest.{beside, by-column}
@@ -40,32 +40,17 @@ pub record Ordering (o c d : List ℕ) : Type 0 where
   pub under : Under (length c) c
   pub rows : length c ≤ length d
 
-length-range : (a k : ℕ) → length (range a k) ≡ k
-length-range a zero = refl
-length-range a (suc k) = ap suc (length-range (suc a) k)
-
-getD-range : (f : ℕ → ℕ) (a k j : ℕ) → j < k → getD (map f (range a k)) j 0 ≡ f (a + j)
-getD-range f a zero j h = absurd (omega arith)
-getD-range f a (suc k) zero h = ap f (omega arith)
-getD-range f a (suc k) (suc j) h = let e : suc a + j ≡ a + suc j = omega arith in getD-range f (suc a) k j (omega arith) ∙ ap f e
-
 module _ (l : ℕ) (c xs : List ℕ) where
-  pub length-by-column : length (by-column l c xs) ≡ l
-  length-by-column = length-map (range 0 l) (λ (q : ℕ). beside q c xs) ∙ length-range 0 l
-
-  pub getD-by-column : (q : ℕ) → q < l → getD (by-column l c xs) q 0 ≡ beside q c xs
-  getD-by-column q h = let e : 0 + q ≡ q = omega arith in getD-range (λ (p : ℕ). beside p c xs) 0 l q h ∙ ap (λ (p : ℕ). beside p c xs) e
-
   pub length-placed : (o : List ℕ) → l ≤ length o → length (placed l c xs o) ≡ length o
   unfolding placed
-  length-placed o h = length-append (by-column l c xs) (drop l o) ∙ omega (arith, length-by-column, length-drop l o)
+  length-placed o h = length-append (by-column l c xs) (drop l o) ∙ omega (arith, length-by-column l c xs, length-drop l o)
 
   placed-zeros : (o : List ℕ) → Blank l o → ((q : ℕ) → beside q c xs ≡ 0) → placed l c xs o ≡ o
   unfolding placed
   placed-zeros o b z =
       ap (λ (a : List ℕ). a ++ drop l o)
-      (ext-getD 0 (by-column l c xs) (take l o) (length-by-column ∙ sym (length-take-le l o (b .room)))
-      (λ q h. let k : q < l = omega (arith, h, length-by-column) in getD-by-column q k ∙ z q ∙ sym (getD-take l o q 0 k ∙ b .zeros q k)))
+      (ext-getD 0 (by-column l c xs) (take l o) (length-by-column l c xs ∙ sym (length-take-le l o (b .room)))
+      (λ q h. let k : q < l = omega (arith, h, length-by-column l c xs) in getD-by-column l c xs q k ∙ z q ∙ sym (getD-take l o q 0 k ∙ b .zeros q k)))
       ∙ take-append-drop l o
 
 pub placed-none : (l : ℕ) (xs o : List ℕ) → Blank l o → placed l [] xs o ≡ o

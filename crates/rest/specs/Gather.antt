@@ -19,10 +19,10 @@ use native.Mathlib.Omega.{arith}
 use lib.ListN.{length, getD, take, drop, length-drop}
 use lib.Seq.{getD-take, getD-drop, length-take-le}
 use borrow.Author.Tests.{eqb-true, eqb-false}
+use Rattle.loops.specs.Part.{drop-next}
 use Rattle.loops.specs.Room.{notes, notes-append}
 use Rattle.oplist.specs.declared.Op.{Op}
 use Rattle.oplist.specs.declared.Op.the-variants.{AddAssign}
-use Rattle.oplist.specs.Listed.{drop-next}
 use Rattle.phases.specs.One.{Step, rows-of, pivots-of, entry}
 use Rattle.phases.specs.Rest.{gather, phase-four}
 use Rattle.grid.specs.Grid.{bit, Under, gone}

@@ -16,9 +16,9 @@ use lib.Dec.{eqb}
 use lib.ListN.{length, getD, set, drop, length-set}
 use lib.Seq.{getD-set-same, getD-set-other, drop-length}
 use borrow.Author.Tests.{eqb-true, eqb-false}
+use Rattle.loops.specs.Part.{drop-next}
 use Rattle.oplist.specs.declared.Op.{Op}
 use Rattle.oplist.specs.Ops.{dest, Each}
-use Rattle.oplist.specs.Listed.{drop-next}
 use Rattle.phases.specs.Rest.{has, keep-op, kept}
 use Rattle.grid.specs.Grid.{Figures}
 

@@ -23,12 +23,11 @@ use lib.Dec.{ltb}
 use lib.ListN.{length, getD, set, take, drop, length-set, length-append, length-drop, length-map, drop-of-length-le, List·getD-append}
 use lib.Seq.{take-nil, getD-take, getD-drop, length-take-le, take-take, drop-drop, drop-append-add, getD-append-add, ext-getD}
 use borrow.Author.Tests.{le-ltb, ltb-true, ltb-false}
-use Rattle.loops.specs.Part.{part, length-part, getD-part}
+use Rattle.loops.specs.Part.{part, length-part, getD-part, drop-next, row-within}
 use Rattle.octet.specs.Octet.{add, mul}
 use Rattle.oplist.specs.Facts.{Rows}
-use Rattle.oplist.specs.Listed.{drop-next}
 use Rattle.phases.specs.Rest.{weigh, values, by-substitution}
-use Rattle.second.specs.Store.{storeOf, row-storeOf, row-within}
+use Rattle.second.specs.Store.{storeOf, row-storeOf}
 use Rattle.grid.specs.Grid.{Under}
 use Rattle.rest.specs.Columns.{Blank, placed, placed-nothing, placed-next, placed-room, getD-placed, Placing, placing-next, placing-end}
 

@@ -1,6 +1,7 @@
 -- What is permitted depends only on the eligible rows' entries in V.
 --   Alike              two matrices have the same ones in the rows of E and the columns of C
 --   filter-alike       tests that agree on the members of a list keep the same ones
+--   least-alike        and figures that agree there have the same least positive one
 --   ones-alike, count-alike   then a row of E has the same ones
 --   permitted-alike    and the same choices are permitted
 -- Assumes nothing.
@@ -10,7 +11,7 @@ use mathlib.Core.List.{List, [], _∷_}
 use mathlib.Core.Bool.{Bool}
 use Prim.Native.Nat.{ℕ, _≤_, _<_}
 use lib.ListN.{length}
-use Rattle.rule.specs.Lists.{In, keep, filter}
+use Rattle.rule.specs.Lists.{In, keep, filter, lesser, leastPos}
 use Rattle.rule.specs.Permitted.{ones, count, Joined, Reach, here, along, IsComponent, InLargest, Permitted}
 
 abbrev pub Alike : (ℕ → ℕ → Bool) → (ℕ → ℕ → Bool) → List ℕ → List ℕ → Type 0
@@ -19,6 +20,10 @@ Alike row row′ C E = (x q : ℕ) → In x E → In q C → row x q ≡ row′ 
 pub filter-alike : (p q : ℕ → Bool) (l : List ℕ) → ((x : ℕ) → In x l → p x ≡ q x) → filter p l ≡ filter q l
 filter-alike p q [] h = refl
 filter-alike p q (x ∷ l) h = ap₂ (λ (b : Bool) (t : List ℕ). keep b x t) (h x (inl refl)) (filter-alike p q l (λ y m. h y (inr m)))
+
+pub least-alike : (f g : ℕ → ℕ) (l : List ℕ) → ((y : ℕ) → In y l → f y ≡ g y) → leastPos f l ≡ leastPos g l
+least-alike f g [] h = refl
+least-alike f g (x ∷ l) h = ap₂ lesser (h x (inl refl)) (least-alike f g l (λ y m. h y (inr m)))
 
 module _ (row row′ : ℕ → ℕ → Bool) (C E : List ℕ) (a : Alike row row′ C E) where
   pub ones-alike : (x : ℕ) → In x E → ones row C x ≡ ones row′ C x

@@ -1,7 +1,7 @@
 -- The labels: two columns of V with one label are connected in the grounded graph, and the ends of a pair have one label.
---   or-cases, or-false, and-both, and-cases   truth values
+--   or-cases, or-false, or-l, or-r, and-both, and-cases   truth values
 --   Same                          two columns have one label
---   relabel-keeps, relabel-joins, relabel-fresh   a pair joined
+--   relabel-keeps, relabel-joins, relabel-fresh   a pair joined;  joint-pos   its label is not 0
 --   Sound, Full                   the two halves of what labels say
 --   sound-shrinks, sound-pair, sound-rows, rows-join, two   how they are kept
 --   sound-step, full-step         a step keeps them
@@ -29,10 +29,10 @@ pub or-false : (a b : Bool) → (a || b) ≡ false → (a ≡ false) × (b ≡ f
 or-false true b e = absurd (tf refl e)
 or-false false b e = (refl, e)
 
-or-l : (a b : Bool) → a ≡ true → (a || b) ≡ true
+pub or-l : (a b : Bool) → a ≡ true → (a || b) ≡ true
 or-l a b e = rw e
 
-or-r : (a b : Bool) → b ≡ true → (a || b) ≡ true
+pub or-r : (a b : Bool) → b ≡ true → (a || b) ≡ true
 or-r true b e = refl
 or-r false b e = e
 
@@ -56,7 +56,7 @@ joint-is zero (suc b) n = inr (inr (refl, λ e. omega arith))
 joint-is (suc a) zero n = inr (inl (refl, λ e. omega arith))
 joint-is (suc a) (suc b) n = ⊎-elim (λ e. rw e (inr (inr (refl, λ f. omega arith)))) (λ e. rw e (inr (inl (refl, λ f. omega arith)))) (bool-or (ltb b a))
 
-joint-pos : (a b n : ℕ) → 0 < n → joint a b n ≡ 0 → ⊥
+pub joint-pos : (a b n : ℕ) → 0 < n → joint a b n ≡ 0 → ⊥
 joint-pos a b n h e = cases (joint-is a b n)
   where
     cases : (joint a b n ≡ n) ⊎ ((joint a b n ≡ a) × (a ≡ 0 → ⊥)) ⊎ ((joint a b n ≡ b) × (b ≡ 0 → ⊥)) → ⊥

@@ -1,6 +1,7 @@
 -- Lists of numbers as finite sets: the laws of specs/Lists.
 --   bool-or, tf                  a truth value is one of two, and not both
 --   in?, in-cast                 membership is decided, and passes along an equation
+--   in-at, each-in               an entry is a member; what holds of every entry holds of every member
 --   in-filter, filter-in, nodup-filter, length-filter, length-filter-less   a filtered list
 --   sub-length                   a list without repeats is no longer than one that has its members
 --   only-one, only-two           lists of one and of two members
@@ -15,7 +16,7 @@ use mathlib.Core.Bool.{Bool, true, false, cond, not}
 use mathlib.Core.Option.{some}
 use Prim.Native.Nat.{ℕ, zero, suc, _≤_, _<_}
 use native.Mathlib.Omega.{arith}
-use lib.ListN.{length}
+use lib.ListN.{length, getD}
 use lib.Dec.{eqb, ltb}
 use borrow.Author.Tests.{eqb-true, eqb-false, eq-eqb, ne-eqb, ltb-true, ltb-false}
 use Rattle.rule.specs.Lists.{In, Nodup, keep, filter, head, leastFrom, headLeast, lesser, leastPos}
@@ -197,3 +198,13 @@ leastPos-at f (y ∷ l) h = go (lesser-is (f y) (leastPos f l)) (leastPos-at f l
         → (0 < leastPos f l → (x : ℕ) × In x l × (f x ≡ leastPos f l)) → (x : ℕ) × In x (y ∷ l) × (f x ≡ leastPos f (y ∷ l))
     go (inl e) i = (y, inl refl, sym e)
     go (inr e) i = let t : (x : ℕ) × In x l × (f x ≡ leastPos f l) = i (omega arith) in (t .0, inr (t .1), t .2 ∙ sym e)
+
+pub in-at : (l : List ℕ) (k : ℕ) → k < length l → In (getD l k 0) l
+in-at [] k h = absurd (omega arith)
+in-at (a ∷ l) zero h = inl refl
+in-at (a ∷ l) (suc k) h = inr (in-at l k (omega arith))
+
+pub each-in : (P : ℕ → Type 0) (l : List ℕ) → ((k : ℕ) → k < length l → P (getD l k 0)) → (x : ℕ) → In x l → P x
+each-in P [] h x m = absurd m
+each-in P (a ∷ l) h x (inl e) = subst P (sym e) (h 0 (omega arith))
+each-in P (a ∷ l) h x (inr m) = each-in P l (λ k i. h (suc k) (omega arith)) x m

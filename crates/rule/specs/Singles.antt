@@ -1,5 +1,6 @@
 -- The singles through a step: after each push and each removal they are exactly the rows that have a single one then.
 --   Subset, in-left, in-right, in-either   membership in a joined list
+--   nodup-snoc                             a new number at the end of a list without repeats
 --   Removed, removed, exchanged            a removal by exchange; the chosen row's exchange with the first
 --   Exact                                  a list holds exactly the rows whose count is one
 --   Event, lose-exact, loseFirst-exact, refresh-exact   one row's count changes
@@ -33,7 +34,7 @@ in-either z [] t h = inr h
 in-either z (a ∷ s) t (inl e) = inl (inl e)
 in-either z (a ∷ s) t (inr m) = ⊎-elim (λ k. inl (inr k)) (λ k. inr k) (in-either z s t m)
 
-nodup-snoc : (s : List ℕ) (y : ℕ) → Nodup s → (In y s → ⊥) → Nodup (s ++ (y ∷ []))
+pub nodup-snoc : (s : List ℕ) (y : ℕ) → Nodup s → (In y s → ⊥) → Nodup (s ++ (y ∷ []))
 nodup-snoc [] y n h = ((λ k. k), tt)
 nodup-snoc (a ∷ s) y n h =
     ((λ m. ⊎-elim (n .0) (λ k. ⊎-elim (λ e. h (inl (sym e))) absurd k) (in-either a s (y ∷ []) m)), nodup-snoc s y (n .1) (λ m. h (inr m)))

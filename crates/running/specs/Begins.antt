@@ -6,22 +6,20 @@
 --   outcome-at, room-kept, blank-again, ran-from   the parts of a run joined
 --   pivotless        columns are left in V: no pivot
 -- Assumes nothing.
-use mathlib.Core.Path.{_≡_, refl, sym, ap, ap₂, _∙_, subst}
+use mathlib.Core.Path.{_≡_, refl, sym, ap, _∙_, subst}
 use mathlib.Core.Logic.{_⊎_, inl, inr}
-use mathlib.Core.Bool.{Bool, true, false, cond}
-use mathlib.Core.List.{List, [], _∷_, _++_, map}
+use mathlib.Core.Bool.{true, false, cond}
+use mathlib.Core.List.{List, [], _∷_, _++_}
 use Prim.Native.Nat.{ℕ, _+_, _-_, _*_, _≤_, _<_}
 use native.Mathlib.Omega.{arith}
 use borrow.Author.Tests.{lt-ltb, le-ltb}
 use lib.Dec.{ltb}
-use lib.ListN.{length, take, length-append}
+use lib.ListN.{length, length-append}
 use Rattle.loops.specs.Out.{Out}
 use Rattle.loops.specs.Way.{Way, go, halt}
 use Rattle.oplist.specs.declared.Op.{Op}
-use Rattle.oplist.specs.Word.{packed}
 use Rattle.algebra.specs.Flat.{Bytes}
 use Rattle.phases.specs.System.{Shape as Defined, first-rows, octet-rows}
-use Rattle.phases.specs.One.{Step, Phase}
 use Rattle.phases.specs.Two.{Second, forward}
 use Rattle.phases.specs.Run.{Run, whole, finish, second, refused, goes-on, defined}
 use Rattle.phases.specs.Occ.{occ-append, occ-range, Member}
@@ -36,7 +34,7 @@ use Rattle.firstphase.specs.Begins.{Lent}
 use Rattle.call.specs.declared.Shape.{Shape}
 use Rattle.answers.specs.declared.Answer.{Answer}
 use Rattle.answers.specs.declared.Answer.the-variants.{ListFull, NoPivot}
-use Rattle.call.specs.Over.{over, blank, over-same, length-over}
+use Rattle.call.specs.Over.{blank, over-same, length-over}
 use Rattle.call.specs.Call.{Working, answerOf, told}
 use Rattle.ending.specs.Ran.{asShape, Posed, Ran}
 use Rattle.ending.specs.Told.{posed-fit, entered-at}

@@ -1,7 +1,6 @@
 -- Operations done on the store and noted in the journal; a column cleared.
 --   Fit m op          an operation keeps to m rows, and its fields fit a word
---   multiple          the operation that adds c times a row, c not zero
---   multiple-one, multiple-more, entry-multiple, fit-multiple, small-multiple   which it is, where it stands in a list, and that it fits
+--   fit-multiple      a multiple of a row, for rows below m
 --   Performed         a list of operations was done on the store, and noted
 --   performed-none, performed-one, performed-then, performed-as, performed-fair   of none, of one, of two lists, of an equal list; the journal stays fair
 --   acts-append       of lists joined
@@ -19,6 +18,7 @@ use native.Mathlib.Numerals.{add-one}
 use native.Mathlib.Omega.{arith}
 use lib.ListN.{length, getD, take}
 use lib.Seq.{take-suc, getD-take, length-take-le, getD-set-other}
+use Rattle.oplist.specs.Multiple.{multiple}
 use Rattle.loops.specs.Room.{notes, notes-append}
 use Rattle.octet.specs.Octet.{inverse, quotient}
 use Rattle.octet.specs.Field.{one-mul, inv-octet, mul-octet}
@@ -39,38 +39,11 @@ pub record Fit (m : ℕ) (op : Op) : Type 0 where
   pub within : Within m op
   pub small : Small op
 
-unfoldable pub multiple : ℕ → ℕ → ℕ → Op
-multiple zero y x = AddAssign y x
-multiple (suc zero) y x = AddAssign y x
-multiple (suc (suc c)) y x = FMA y x (suc (suc c))
-
-pub multiple-one : (y x : ℕ) → multiple 1 y x ≡ AddAssign y x
-unfolding multiple
-multiple-one y x = refl
-
-pub multiple-more : (c y x : ℕ) → 1 < c → multiple c y x ≡ FMA y x c
-unfolding multiple
-multiple-more zero y x h = absurd (omega arith)
-multiple-more (suc zero) y x h = absurd (omega arith)
-multiple-more (suc (suc c)) y x h = refl
-
-pub entry-multiple : (c y x : ℕ) (os : List Op) → c ≢ 0 → entry c y x os ≡ multiple c y x ∷ os
-unfolding multiple
-entry-multiple zero y x os n = absurd (n refl)
-entry-multiple (suc zero) y x os n = refl
-entry-multiple (suc (suc c)) y x os n = refl
-
 pub fit-multiple : (m c y x : ℕ) → y < m → x < m → m ≤ 65535 → c < 256 → Fit m (multiple c y x)
 unfolding multiple
 fit-multiple m zero y x h k f b = record { within = (h, k); small = omega arith }
 fit-multiple m (suc zero) y x h k f b = record { within = (h, k); small = omega arith }
 fit-multiple m (suc (suc c)) y x h k f b = record { within = (h, k); small = omega arith }
-
-pub small-multiple : (c y x : ℕ) → y < 65536 → x < 65536 → c < 256 → Small (multiple c y x)
-unfolding multiple
-small-multiple zero y x h k b = omega arith
-small-multiple (suc zero) y x h k b = omega arith
-small-multiple (suc (suc c)) y x h k b = omega arith
 
 pub record Performed (m l i : ℕ) (os : List Op) (w : List ℕ) (g : Book) (w′ : List ℕ) (g′ : Book) : Type 0 where
   pub store : storeOf m l i w′ ≡ acts os (storeOf m l i w)

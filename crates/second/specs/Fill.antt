@@ -2,13 +2,13 @@
 --   Filling           the lengths that filling asks for, and columns that are there
 --   picked            the entries of row j at some columns, in a list of rows of l
 --   entries           the matrix of a binary list and octet rows, which are h from row s on
---   getD-map-below, map-as, picked-as   of a map
+--   map-as, picked-as   of a map
 --   entries-before, entries-octet, entries-after   row y, by where it stands to the octet rows
 --   Filled, filled-start, filled-next, filled-end   rows filled from the top
 -- Assumes nothing.
 use mathlib.Core.Path.{_≡_, refl, ap, ap₂, _∙_}
 use mathlib.Core.List.{List, [], _∷_, map}
-use Prim.Native.Nat.{ℕ, zero, suc, _+_, _*_, _-_, _≤_, _<_}
+use Prim.Native.Nat.{ℕ, suc, _+_, _*_, _-_, _≤_, _<_}
 use native.Mathlib.Omega.{arith}
 use borrow.Author.Count.{below-more}
 use borrow.Author.Tests.{lt-ltb, le-ltb, le-leb, lt-leb}
@@ -30,11 +30,6 @@ picked l src j cols = map (λ (q : ℕ). getD src (j * l + q) 0) cols
 
 abbrev pub entries : ℕ → ℕ → ℕ → ℕ → List ℕ → List ℕ → ℕ → ℕ → ℕ
 entries m l s h bits octs = combined (record { m = m; n = l; s = s; h = h; w = 0 }) bits octs
-
-pub getD-map-below : (f : ℕ → ℕ) (xs : List ℕ) (k : ℕ) → k < length xs → getD (map f xs) k 0 ≡ f (getD xs k 0)
-getD-map-below f [] k h = absurd (omega arith)
-getD-map-below f (x ∷ xs) zero h = refl
-getD-map-below f (x ∷ xs) (suc k) h = getD-map-below f xs k (omega arith)
 
 pub map-as : (f g : ℕ → ℕ) (xs : List ℕ) → ((k : ℕ) → k < length xs → f (getD xs k 0) ≡ g (getD xs k 0)) → map f xs ≡ map g xs
 map-as f g [] e = refl

@@ -4,13 +4,13 @@
 --   reduced-only        of `phase_two`
 --   cleared-only        of `backward`: the list room and the tally
 -- Assumes nothing.
-use mathlib.Core.Path.{_≡_, refl, sym, ap, ap₂, _∙_}
+use mathlib.Core.Path.{_≡_, sym, ap, ap₂, _∙_}
 use mathlib.Core.List.{List, _++_}
 use Prim.Native.Nat.{ℕ, _-_}
 use native.Mathlib.Omega.{arith}
 use lib.ListN.{take, drop, replicate, length-replicate, take-append-drop}
 use Rattle.loops.specs.Out.{Out, Run, at as beside}
-use Rattle.loops.specs.Way.{Way, go, halt}
+use Rattle.loops.specs.Way.{Way}
 use Rattle.oplist.specs.declared.Op.{Op}
 use Rattle.phases.specs.Two.{Second}
 use Rattle.tally.specs.declared.Tally.{Tally}

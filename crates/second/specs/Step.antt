@@ -12,6 +12,7 @@ use native.Mathlib.Numerals.{add-one}
 use native.Mathlib.Omega.{arith}
 use lib.ListN.{length, getD, take, drop, length-drop}
 use lib.Seq.{take-all, drop-cons, length-take-le, drop-at, getD-at}
+use Rattle.columns.specs.Exchange.{swapped, length-swapped}
 use Rattle.oplist.specs.Facts.{Rows, Order}
 use Rattle.phases.specs.One.{clears}
 use Rattle.phases.specs.Two.{at, scaled, column-ops}
@@ -19,7 +20,7 @@ use Rattle.rule.specs.Rule.{without}
 use Rattle.tally.specs.Book.{Book, Fair}
 use Rattle.second.specs.Store.{storeOf, Rooms}
 use Rattle.second.specs.Clear.{Performed, performed-as, column-performed}
-use Rattle.second.specs.Swap.{swapped, length-swapped, rows-swapped, rows-drop, brought}
+use Rattle.second.specs.Swap.{rows-swapped, rows-drop, brought}
 
 pub record Ready (m l i : ℕ) (w scratch d : List ℕ) (g : Book) : Type 0 where
   pub rooms : Rooms m l i w scratch

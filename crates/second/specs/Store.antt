@@ -3,7 +3,6 @@
 --   Place m l y q x     x is where place q of row y stands, or would
 --   Sized               the store has m rows of l bytes, and i is a place of it, or its end
 --   Rooms               there is a row of scratch besides, and the rows are few enough for a word
---   row-within          rows end in the store
 --   length-storeOf, row-storeOf, length-row, at-storeOf   its rows and entries
 --   storeOf-put         a part of the store is replaced: that row is
 --   storeOf-rows        a store whose rows are known
@@ -13,14 +12,14 @@
 use mathlib.Core.Path.{_≡_, refl, sym, ap, _∙_}
 use mathlib.Core.Bool.{Bool, true, false}
 use mathlib.Core.List.{List, [], _∷_, _++_, map}
-use Prim.Native.Nat.{ℕ, zero, suc, _+_, _*_, _-_, _≤_, _<_}
-use native.Mathlib.Nat.{suc-mul, mul-le-mul-right}
+use Prim.Native.Nat.{ℕ, _+_, _*_, _-_, _≤_, _<_}
 use native.Mathlib.Omega.{arith}
 use lib.Dec.{eqb, ltb}
 use borrow.Author.Tests.{eqb-true, eqb-false, ltb-true, ltb-false}
 use lib.ListN.{length, getD, set, take, drop, length-map, length-set}
 use lib.Seq.{take-at, drop-at, length-take-le, ext-getD, getD-set-same, getD-set-other}
-use Rattle.loops.specs.Part.{part, put, length-part, getD-part, length-put, getD-put-before, getD-put-after}
+use Rattle.phases.specs.Matrix.{getD-map-range, length-range}
+use Rattle.loops.specs.Part.{part, put, length-part, getD-part, length-put, getD-put-before, getD-put-after, row-within}
 use Rattle.octet.specs.Octet.{add, mul}
 use Rattle.octets.specs.Rows.{addRow, scaleRow, fmaRow}
 use Rattle.oplist.specs.declared.Op.the-variants.{AddAssign, MulAssign, FMA}
@@ -43,21 +42,7 @@ pub record Rooms (m l i : ℕ) (w scratch : List ℕ) : Type 0 where
   pub row : l ≤ length scratch
   pub few : m ≤ 65535
 
-length-range : (a k : ℕ) → length (range a k) ≡ k
-length-range a zero = refl
-length-range a (suc k) = ap suc (length-range (suc a) k)
-
-getD-range : {A : Type 0} (f : ℕ → A) (a k j : ℕ) (d : A) → j < k → getD (map f (range a k)) j d ≡ f (a + j)
-getD-range f a zero j d h = absurd (omega arith)
-getD-range f a (suc k) zero d h = ap f (omega arith)
-getD-range f a (suc k) (suc j) d h =
-    let e : suc a + j ≡ a + suc j = omega arith in
-    getD-range f (suc a) k j d (omega arith) ∙ ap f e
-
 -- rows end in the store, and do not overlap
-pub row-within : (l m y : ℕ) → y < m → y * l + l ≤ m * l
-row-within l m y h = omega (arith, suc-mul y l, mul-le-mul-right l h)
-
 pub length-storeOf : (m l i : ℕ) (w : List ℕ) → length (storeOf m l i w) ≡ m
 unfolding storeOf
 length-storeOf m l i w = length-map (range 0 m) (λ (y : ℕ). part (y * l + i) (l - i) w) ∙ length-range 0 m
@@ -66,7 +51,7 @@ pub row-storeOf : (m l i : ℕ) (w : List ℕ) (y : ℕ) → y < m → getD (sto
 unfolding storeOf
 row-storeOf m l i w y h =
     let e : 0 + y ≡ y = omega arith in
-    getD-range (λ (x : ℕ). part (x * l + i) (l - i) w) 0 m y [] h ∙ ap (λ (x : ℕ). part (x * l + i) (l - i) w) e
+    getD-map-range (λ (x : ℕ). part (x * l + i) (l - i) w) 0 m y [] h ∙ ap (λ (x : ℕ). part (x * l + i) (l - i) w) e
 
 -- a store whose rows are those of f
 pub storeOf-rows : (m l i : ℕ) (w : List ℕ) (f : ℕ → List ℕ) → ((y : ℕ) → y < m → getD (storeOf m l i w) y [] ≡ f y) → storeOf m l i w ≡ map f (range 0 m)
@@ -75,7 +60,7 @@ storeOf-rows m l i w f h =
     ext-getD [] (storeOf m l i w) (map f (range 0 m)) (length-storeOf m l i w ∙ sym n) (λ y k. row y (omega (arith, k, length-storeOf m l i w)))
   where
     row : (y : ℕ) → y < m → getD (storeOf m l i w) y [] ≡ getD (map f (range 0 m)) y []
-    row y k = let e : 0 + y ≡ y = omega arith in h y k ∙ sym (getD-range f 0 m y [] k ∙ ap f e)
+    row y k = let e : 0 + y ≡ y = omega arith in h y k ∙ sym (getD-map-range f 0 m y [] k ∙ ap f e)
 
 -- parts of a list with a part replaced
 part-ext : (w v : List ℕ) (b k : ℕ) → b + k ≤ length w → b + k ≤ length v → ((j : ℕ) → j < k → getD w (b + j) 0 ≡ getD v (b + j) 0) → part b k w ≡ part b k v

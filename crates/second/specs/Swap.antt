@@ -1,6 +1,4 @@
 -- The order of the rows, and an exchange in it.
---   swapped a b d      the entries at a and b change places
---   length-swapped     as many
 --   rows-swapped       rows below m, none twice, stay so
 --   rows-drop          from a place on too
 --   brought            the row y at a place from q on is exchanged to place q: it comes first, and the others are as the rule has them
@@ -15,15 +13,9 @@ use lib.Dec.{eqb}
 use borrow.Author.Tests.{eqb-true, eqb-false, eq-eqb, ne-eqb}
 use lib.ListN.{length, getD, set, take, drop, length-set, length-drop, take-append-drop}
 use lib.Seq.{getD-set-same, getD-set-other, take-set-le, drop-set-add, getD-drop}
+use Rattle.columns.specs.Exchange.{swapped, length-swapped}
 use Rattle.oplist.specs.Facts.{Rows}
 use Rattle.rule.specs.Rule.{replace, without}
-
-unfoldable pub swapped : ℕ → ℕ → List ℕ → List ℕ
-swapped a b d = set (set d a (getD d b 0)) b (getD d a 0)
-
-pub length-swapped : (a b : ℕ) (d : List ℕ) → length (swapped a b d) ≡ length d
-unfolding swapped
-length-swapped a b d = length-set (set d a (getD d b 0)) b (getD d a 0) ∙ length-set d a (getD d b 0)
 
 -- where the entry at k came from
 record From (a b k : ℕ) (d : List ℕ) : Type 0 where

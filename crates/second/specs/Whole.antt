@@ -12,12 +12,13 @@
 --   reduced           phase two, by its parts
 -- Assumes nothing.
 use mathlib.Core.Path.{_≡_, refl, sym, ap, ap₂, subst, _∙_}
-use mathlib.Core.List.{List, [], _∷_, _++_}
+use mathlib.Core.List.{List, [], _++_}
 use mathlib.Core.Option.{Option, some, none}
 use Prim.Native.Nat.{ℕ, zero, suc, _+_, _-_, _≤_}
 use native.Mathlib.Omega.{arith}
 use lib.ListN.{length, take, drop, length-append, length-drop}
 use lib.Seq.{take-at, take-all}
+use Rattle.phases.specs.ByPlace.{length-rows-of}
 use Rattle.loops.specs.Loop.{forTo, up}
 use Rattle.loops.specs.Room.{notes, notes-append}
 use Rattle.loops.specs.Out.{Out, done, at as beside}
@@ -27,7 +28,7 @@ use Rattle.oplist.specs.Ops.{Within, Each}
 use Rattle.oplist.specs.Listed.{opsOf}
 use Rattle.oplist.specs.Facts.{Order}
 use Rattle.rule.specs.Lists.{filter, head}
-use Rattle.phases.specs.One.{Step, rows-of}
+use Rattle.phases.specs.One.{rows-of}
 use Rattle.phases.specs.Two.{Second, acts, working, giving, turn, forward, backward}
 use Rattle.tally.specs.declared.Tally.{Tally}
 use Rattle.tally.specs.Book.{Book, book, note, afresh, anew, Fair, fair-notes}
@@ -91,10 +92,6 @@ module _ (cols : List ℕ) where
       let z : length cols - 0 ≡ length cols = omega arith in
       rw z (counted (length cols) (record { steps = []; left = rows; mat = X }) refl)
 
-length-rows : (ts : List Step) → length (rows-of ts) ≡ length ts
-length-rows [] = refl
-length-rows (t ∷ ts) = ap suc (length-rows ts)
-
 module _ (i : ℕ) (g₀ : Book) {xs : List ℕ} {X : List (List ℕ)} {g : Book} (W : Way (Out Op Second)) where
   pub done-fair : go (beside (sight xs X) g) ≡ seen i (mapWay (lay note g₀) W) → Fair g₀ → Fair g
   done-fair e h = let t = through i g₀ W e in subst Fair (sym (t .ran .list)) (fair-notes (t .f .ops) g₀ h)
@@ -109,7 +106,7 @@ module _ (i : ℕ) (g₀ : Book) {xs : List ℕ} {X : List (List ℕ)} {g : Book
       let t = through i g₀ W e in
       let s : Second = t .f .st in
       let k : length (s .steps) ≡ n = subst (Counted n) (t .way) h in
-      let first : take n xs ≡ rows-of (s .steps) = ap (take n) (t .ran .rows) ∙ take-at (rows-of (s .steps)) (s .left) n (length-rows (s .steps) ∙ k) in
+      let first : take n xs ≡ rows-of (s .steps) = ap (take n) (t .ran .rows) ∙ take-at (rows-of (s .steps)) (s .left) n (length-rows-of (s .steps) ∙ k) in
       let rest : backward X (take n xs) n ≡ backward (s .mat) (rows-of (s .steps)) (length (s .steps)) =
       ap₂ (λ (Y : List (List ℕ)) (ys : List ℕ). backward Y ys n) (t .ran .mat) first ∙ ap (backward (s .mat) (rows-of (s .steps))) (sym k)
       in

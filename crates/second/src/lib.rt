@@ -12,8 +12,7 @@ ghost use Rattle.phases.specs.One.{entry, clears};
 ghost use Rattle.phases.specs.Two.{at, act, acts, working, scaled, forward as columns, backward as cleared};
 ghost use Rattle.tally.specs.Book.{book, Fair};
 ghost use Rattle.second.specs.Store.{storeOf, Place, Rooms, Sized};
-ghost use Rattle.second.specs.Clear.{Fit, multiple, Performed};
-ghost use Rattle.second.specs.Swap.{swapped};
+ghost use Rattle.second.specs.Clear.{Fit, Performed};
 ghost use Rattle.second.specs.Step.{Ready, Stepped};
 ghost use Rattle.second.specs.Forward.{Eliminated};
 ghost use Rattle.second.specs.Backward.{Above, Backable, Cleared};
@@ -170,17 +169,6 @@ fn perform(
     tally::record(list, t, op)
 }
 
-// The operation that adds c times row x to row y.
-fn multiple_of(c: u8, y: usize, x: usize) -> Op
-    requires { ⌜ 0 < c ⌝ }
-    ensures { λ r. ⌜ r ≡ multiple c y x ⌝ }
-{
-    if c == 1 {
-        return Op::AddAssign(y, x);
-    }
-    Op::FMA(y, x, c)
-}
-
 // Row y is divided by its entry at place q.
 fn scale_pivot(
     work: &mut [u8],
@@ -231,7 +219,7 @@ fn clear_row(
     if c == 0 {
         return t;
     }
-    let op = multiple_of(c, y, x);
+    let op = oplist::multiple_of(c, y, x);
     perform(work, m, l, i, scratch, list, t, op)
 }
 
@@ -264,17 +252,6 @@ fn clear_below(
     r
 }
 
-// The entries at a and b change places.
-fn swap(d: &mut [usize], a: usize, b: usize)
-    requires { ⌜ (a < length (now d)) × (b < length (now d)) ⌝ }
-    ensures { λ _. ⌜ now (d .exit) ≡ swapped a b (now (d .entry)) ⌝ }
-{
-    let x = d[a];
-    let y = d[b];
-    d[a] = y;
-    d[b] = x;
-}
-
 // The row at place p comes to place q, is scaled, and clears place q below.
 fn pivot_step(
     work: &mut [u8],
@@ -292,7 +269,7 @@ fn pivot_step(
     requires { ⌜ (i ≤ q) × (q < l) × (q ≤ p) × (p < m) ⌝ }
     ensures { λ r. ⌜ Stepped m l i q (getD (now (d .entry)) p 0) (now (work .entry)) (now (d .entry)) (book (now (list .entry)) t) (now (work .exit)) (now (d .exit)) (book (now (list .exit)) r) ⌝ }
 {
-    swap(d, q, p);
+    columns::swap(d, q, p);
     let x = d[q];
     let first = scale_pivot(work, m, l, i, q, x, scratch, list, t);
     let below = q + 1;
@@ -344,7 +321,7 @@ fn note_multiple(list: &mut [u64], t: Tally, c: u8, y: usize, x: usize) -> Tally
     if c == 0 {
         return t;
     }
-    let op = multiple_of(c, y, x);
+    let op = oplist::multiple_of(c, y, x);
     tally::record(list, t, op)
 }
 

@@ -11,13 +11,14 @@ use Prim.Native.Nat.{ℕ, _+_, _<_}
 use mathlib.Core.Path.{_≡_, refl, sym, ap, _∙_}
 use mathlib.Core.List.{List, [], _∷_, _++_}
 use lib.ListN.{length, getD, drop}
+use Rattle.loops.specs.Part.{drop-next}
 use Rattle.loops.specs.Room.{Log, put, puts, notes, puts-append}
 use Rattle.oplist.specs.declared.Op.{Op}
 use Rattle.oplist.specs.declared.Op.the-variants.{MulAssign, FMA}
 use Rattle.oplist.specs.declared.Word.{Word}
 use Rattle.oplist.specs.declared.Word.the-variants.{Known, Unknown}
 use Rattle.oplist.specs.Word.{meaning}
-use Rattle.oplist.specs.Listed.{drop-next, withOp, opsOf, opsOf-drop}
+use Rattle.oplist.specs.Listed.{withOp, opsOf, opsOf-drop}
 use Rattle.shown.specs.Text.{mulWord, fmaWord, newline, opText, opsText, named, space, entriesText}
 
 abbrev pub byte : ℕ → ℕ

@@ -10,7 +10,7 @@
 --   pick-start, pick-in, pick-skip, pick-end   it begins, puts one in, leaves one out, is over;  pick-room   there is room for one more
 -- Assumes nothing.
 use mathlib.Core.Path.{_≡_, refl, sym, ap, subst, _∙_}
-use mathlib.Core.Bool.{Bool, true, false, cond}
+use mathlib.Core.Bool.{Bool, true, false}
 use mathlib.Core.List.{List, [], _∷_, _++_, append-assoc, append-nil}
 use Prim.Native.Nat.{ℕ, zero, suc, _+_, _-_, _<_, _≤_}
 use native.Mathlib.Omega.{arith}
@@ -19,8 +19,9 @@ use lib.ListN.{length, getD, set, take, drop, length-set}
 use lib.Seq.{length-take-le, getD-take, take-set-lt, take-suc-set, take-take}
 use lib.Dec.{eqb}
 use borrow.Author.Tests.{eq-eqb, ne-eqb}
+use Rattle.loops.specs.Part.{drop-next}
 use Rattle.rule.specs.Lists.{filter, keep}
-use Rattle.grid.specs.Grid.{to-go, gone}
+use Rattle.grid.specs.Grid.{gone}
 use Rattle.rule.specs.Rule.{bring, lastFirst, swapRemove, lose, loseFirst, refresh}
 
 -- the first r of the slice are the list l, and the slice is as long as it was
@@ -150,7 +151,7 @@ module _ {p : ℕ → Bool} {e s₀ s : List ℕ} {n k : ℕ} (h : Picking p e s
     left =
         ap (λ (z : List ℕ). z ++ filter p (drop (k + 1) e)) (g .holds) ∙ append-assoc (take n s) (getD e k 0 ∷ []) (filter p (drop (k + 1) e))
         ∙ ap (λ (b : Bool). take n s ++ keep b (getD e k 0) (filter p (drop (k + 1) e))) (sym q)
-        ∙ sym (ap (λ (z : List ℕ). take n s ++ filter p z) (to-go e k l)) ∙ h .left;
+        ∙ sym (ap (λ (z : List ℕ). take n s ++ filter p z) (drop-next e k l)) ∙ h .left;
   }
 
   pub pick-skip : k < length e → p (getD e k 0) ≡ false → Picking p e s₀ s n (k + 1)
@@ -160,7 +161,7 @@ module _ {p : ℕ → Bool} {e s₀ s : List ℕ} {n k : ℕ} (h : Picking p e s
     within = omega arith;
     left =
         ap (λ (b : Bool). take n s ++ keep b (getD e k 0) (filter p (drop (k + 1) e))) (sym q)
-        ∙ sym (ap (λ (z : List ℕ). take n s ++ filter p z) (to-go e k l)) ∙ h .left;
+        ∙ sym (ap (λ (z : List ℕ). take n s ++ filter p z) (drop-next e k l)) ∙ h .left;
   }
 
   pub pick-end : length e ≤ length s₀ → length e ≤ k → Kept s₀ s n (filter p e)

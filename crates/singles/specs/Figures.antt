@@ -30,11 +30,12 @@ use lib.ListN.{length, getD, set, take, drop, length-set}
 use lib.Seq.{getD-set-same, getD-set-other, length-take-le}
 use lib.Dec.{eqb}
 use borrow.Author.Tests.{eqb-true, eqb-false}
+use Rattle.loops.specs.Part.{drop-next}
 use Rattle.rule.specs.Lists.{In, Nodup}
 use Rattle.rule.specs.Sets.{bool-or, in-cast, sub-length}
 use Rattle.rule.specs.Rule.{swapRemove, lose, loseFirst, refresh}
-use Rattle.rule.specs.Singles.{in-either, Removed, removed}
-use Rattle.grid.specs.Grid.{to-go, gone, Under, Rows}
+use Rattle.rule.specs.Singles.{in-either, Removed, removed, nodup-snoc}
+use Rattle.grid.specs.Grid.{gone, Under, Rows}
 use Rattle.singles.specs.Facts.{Kept}
 
 pub record Fig : Type 0 where
@@ -105,11 +106,6 @@ room-left {cnt} {s} y h l n =
       sub-length (y ∷ s) (below (length cnt)) (n, h .once)
           (λ z m. ⊎-elim (λ e. in-below (length cnt) z (omega arith)) (λ k. in-below (length cnt) z (h .under z k)) m),
     )
-
-nodup-snoc : (s : List ℕ) (y : ℕ) → Nodup s → (In y s → ⊥) → Nodup (s ++ (y ∷ []))
-nodup-snoc [] y n h = ((λ k. k), tt)
-nodup-snoc (a ∷ s) y n h =
-    ((λ m. ⊎-elim (n .0) (λ k. ⊎-elim (λ e. h (inl (sym e))) absurd k) (in-either a s (y ∷ []) m)), nodup-snoc s y (n .1) (λ m. h (inr m)))
 
 module _ {cnt s : List ℕ} (h : Held cnt s) (y : ℕ) where
   -- a row whose count is not one is not in the list
@@ -254,7 +250,7 @@ going-start h = record { within = omega arith; same = refl; room = refl; sound =
 module _ {p : ℕ → Bool} {g : ℕ → Fig → Fig} {ys ones₀ s₀ ones s : List ℕ} {n₀ k n : ℕ} (h : Going p g ys ones₀ s₀ n₀ k ones s n) where
   turn : k < length ys → each p g (drop k ys) (fig ones s n) ≡ each p g (drop (k + 1) ys) (cond (p (getD ys k 0)) (g (getD ys k 0) (fig ones s n)) (fig ones s n))
   unfolding each
-  turn l = rw (to-go ys k l)
+  turn l = rw (drop-next ys k l)
 
   pub going-hit : {ones′ s′ : List ℕ} {n′ : ℕ} → k < length ys → p (getD ys k 0) ≡ true → Done (g (getD ys k 0)) ones s n ones′ s′ n′ → Going p g ys ones₀ s₀ n₀ (k + 1) ones′ s′ n′
   going-hit {ones′} {s′} {n′} l e d = record {
@@ -301,7 +297,7 @@ module _ {row : ℕ → ℕ → Bool} {qs ys ones₀ s₀ ones s : List ℕ} {n�
     same = d .same ∙ h .same;
     room = d .room ∙ h .room;
     sound = d .sound;
-    left = ap (dropCols row (drop (k + 1) qs) ys) (d .is) ∙ sym (ap (λ (z : List ℕ). dropCols row z ys (fig ones s n)) (to-go qs k l)) ∙ h .left;
+    left = ap (dropCols row (drop (k + 1) qs) ys) (d .is) ∙ sym (ap (λ (z : List ℕ). dropCols row z ys (fig ones s n)) (drop-next qs k l)) ∙ h .left;
   }
 
   -- the rows have figures

@@ -3,12 +3,12 @@
 --   length-gained, part-gained  it keeps its length; a part of it gains the same part of the other
 --   gained-row, gained-multiple entry by entry, for rows as long as each other
 -- Assumes nothing.
-use mathlib.Core.Path.{_≡_, refl, sym, ap, ap₂, _∙_}
+use mathlib.Core.Path.{_≡_, refl, sym, ap, _∙_}
 use mathlib.Core.List.{List, [], _∷_, map}
 use Prim.Native.Nat.{ℕ, zero, suc}
 use native.Mathlib.Omega.{arith}
 use lib.ListN.{length, take, drop}
-use lib.Seq.{take-nil, drop-nil}
+use Rattle.octets.specs.Laws.{length-addRow}
 use Rattle.loops.specs.Part.{part}
 use Rattle.octet.specs.Octet.{add, mul}
 use Rattle.octets.specs.Rows.{addRow, scaleRow, fmaRow}
@@ -19,12 +19,6 @@ use Rattle.slab.specs.declared.row.Gain.the-variants.{Row, Multiple}
 unfoldable pub gained : Gain → List ℕ → List ℕ → List ℕ
 gained Row d s = addRow d s
 gained (Multiple k) d s = fmaRow d s k
-
-length-add : (d s : List ℕ) → length (addRow d s) ≡ length d
-unfolding addRow
-length-add [] s = refl
-length-add (x ∷ d) [] = refl
-length-add (x ∷ d) (y ∷ s) = ap suc (length-add d s)
 
 take-add : (n : ℕ) (d s : List ℕ) → take n (addRow d s) ≡ addRow (take n d) (take n s)
 unfolding addRow
@@ -61,8 +55,8 @@ part-add a n d s = ap (take n) (drop-add a d s) ∙ take-add n (drop a d) (drop 
 
 pub length-gained : (g : Gain) (d s : List ℕ) → length (gained g d s) ≡ length d
 unfolding gained fmaRow
-length-gained Row d s = length-add d s
-length-gained (Multiple k) d s = length-add d (scaleRow k s)
+length-gained Row d s = length-addRow d s
+length-gained (Multiple k) d s = length-addRow d (scaleRow k s)
 
 pub part-gained : (g : Gain) (a n : ℕ) (d s : List ℕ) → part a n (gained g d s) ≡ gained g (part a n d) (part a n s)
 unfolding gained fmaRow scaleRow part

@@ -5,11 +5,11 @@
 --   undo-replay, replay-undo     of a list that undo accepts, undo after replay and replay after undo restore every byte
 --   replay-recovers              after a list that reduces the matrix, the symbols, each read where the answer says, are those that made the slab
 -- Assumes nothing.
-use mathlib.Core.Path.{_≡_, refl, sym, ap, _∙_}
+use mathlib.Core.Path.{_≡_, refl, sym, _∙_}
 use mathlib.Core.Logic.{_≢_}
 use mathlib.Core.Bool.{Bool, true, false}
 use mathlib.Core.List.{List}
-use Prim.Native.Nat.{ℕ, _*_, _<_}
+use Prim.Native.Nat.{ℕ}
 use native.Mathlib.Omega.{arith}
 use lib.ListN.{length}
 use Rattle.oplist.specs.Listed.{opsOf}
@@ -19,11 +19,11 @@ use Rattle.algebra.specs.Flat.{Bytes, acts, length-acts, undo-acts, acts-undo}
 use Rattle.algebra.specs.Solve.{Reduces}
 use Rattle.algebra.specs.Slab.{Source, through, solved}
 use Rattle.slab.specs.declared.Answer.{Answer}
-use Rattle.slab.specs.declared.Answer.the-variants.{InPlace, BadShape, BadList, NotUndoable}
+use Rattle.slab.specs.declared.Answer.the-variants.{InPlace, NotUndoable}
 use Rattle.slab.specs.declared.Check.{Check}
 use Rattle.slab.specs.declared.Check.the-variants.{Pass, ShapeFails, ListFails}
-use Rattle.slab.specs.Replay.{number, rowOf, readBy, checked, Outcome, outcome, pickOutcome, replayedBy, replayed, undoneBy, undone, Replayed, Undone}
-use Rattle.slab.specs.Passed.{Passed, passed, all-within, all-good}
+use Rattle.slab.specs.Replay.{number, rowOf, readBy, checked, outcome, pickOutcome, replayedBy, replayed, undoneBy, undone, Replayed, Undone}
+use Rattle.slab.specs.Passed.{passed, all-within, all-good}
 
 module _ (m l t : ℕ) (ws : List ℕ) (b : Bool) (xs : List ℕ) where
   pub replay-one : {s u v : List ℕ} {q r : Answer} → Replayed m l t ws b xs s q u → Replayed m l t ws b xs s r v → outcome q u ≡ outcome r v

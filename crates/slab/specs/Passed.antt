@@ -15,18 +15,17 @@ use Prim.Native.Nat.{ℕ, _+_, _*_, _^_, _<_, _≤_}
 use native.Mathlib.Nat.{mul-le-mul-right}
 use native.Mathlib.Omega.{arith}
 use borrow.Author.Tests.{leb-true, eqb-true, ltb-true, ltb-false}
-use lib.Dec.{leb, ltb, eqb}
+use lib.Dec.{leb, ltb}
 use lib.ListN.{length}
 use Rattle.oplist.specs.declared.Op.{Op}
 use Rattle.oplist.specs.declared.Op.the-variants.{AddAssign, MulAssign, FMA}
-use Rattle.oplist.specs.Ops.{Each, Nonzero}
+use Rattle.oplist.specs.Ops.{Each, Nonzero, each-map}
 use Rattle.oplist.specs.Word.{Small}
 use Rattle.oplist.specs.Listed.{opsOf, small-opsOf}
-use Rattle.oplist.specs.Check.{mostRows, shapeFine, listFine, orderFine, undoable}
-use Rattle.oplist.specs.Facts.{and-left, and-right, Shape, shapeFine-shape, Fine, listFine-each, undoable-each, never}
+use Rattle.oplist.specs.Check.{shapeFine, listFine, orderFine, undoable}
+use Rattle.oplist.specs.Facts.{and-left, and-right, Shape, shapeFine-shape, Fine, listFine-each, undoable-each}
 use Rattle.algebra.specs.Rows.{Good, Within}
 use Rattle.algebra.specs.Flat.{fits}
-use Rattle.slab.specs.declared.Check.{Check}
 use Rattle.slab.specs.declared.Check.the-variants.{Pass, ShapeFails, ListFails}
 use Rattle.slab.specs.Blocks.{TwoRows}
 use Rattle.slab.specs.Placed.{Placed}
@@ -77,10 +76,6 @@ placed m t (AddAssign d s) f = two-rows m t d s (f .within .0) (f .within .1) (f
 placed m t (MulAssign d c) f = fits m t d (f .within .0)
 placed m t (FMA d s c) f = two-rows m t d s (f .within .0) (f .within .1) (f .apart)
 
-each-of : (P Q : Op → Type 0) → ((o : Op) → P o → Q o) → (os : List Op) → Each P os → Each Q os
-each-of P Q f [] h = tt
-each-of P Q f (o ∷ os) h = (f o (h .0), each-of P Q f os (h .1))
-
 good : (m : ℕ) (o : Op) → Fine m o × Nonzero o × Small o → Good o
 good m (AddAssign d s) h = h .0 .apart
 good m (MulAssign d c) h = (h .2 .1, h .1)
@@ -102,12 +97,12 @@ good-placed m t (o ∷ os) g b = (at o (g .0) (b .0), good-placed m t os (g .1) 
 
 module _ {m l t : ℕ} {ws : List ℕ} {b : Bool} {xs : List ℕ} {size : ℕ} (p : Passed m l t ws b xs size) where
   pub all-placed : AllPlaced t (opsOf ws) size
-  all-placed = rw (p .whole) (each-of (Fine m) (λ (o : Op). Placed t o (m * t)) (placed m t) (opsOf ws) (listFine-each m ws (p .fine)))
+  all-placed = rw (p .whole) (each-map (Fine m) (λ (o : Op). Placed t o (m * t)) (placed m t) (opsOf ws) (listFine-each m ws (p .fine)))
 
   pub all-within : Each (Within m) (opsOf ws)
-  all-within = each-of (Fine m) (Within m) (λ o f. f .within) (opsOf ws) (listFine-each m ws (p .fine))
+  all-within = each-map (Fine m) (Within m) (λ o f. f .within) (opsOf ws) (listFine-each m ws (p .fine))
 
   pub all-good : undoable (opsOf ws) ≡ true → Each Good (opsOf ws)
   all-good e =
-      each-of (λ (o : Op). Fine m o × Nonzero o × Small o) Good (good m) (opsOf ws)
+      each-map (λ (o : Op). Fine m o × Nonzero o × Small o) Good (good m) (opsOf ws)
       (each-three (Fine m) Nonzero Small (opsOf ws) (listFine-each m ws (p .fine)) (undoable-each (opsOf ws) e) (small-opsOf ws))

@@ -28,7 +28,7 @@ use Rattle.answers.specs.Rooms.{roomsOf}
 use Rattle.call.specs.declared.Shape.{Shape}
 use Rattle.call.specs.declared.OctetRows.{OctetRows}
 use Rattle.call.specs.declared.OctetRows.the-variants.{Given, Absent}
-use Rattle.call.specs.Call.{octetsIn, rowsIn, rowsOf, Buffers, buffers, Outcome, outcome, shaped, entered, roomy, roomyFor, shapeOf, told, ended, checked, callOf}
+use Rattle.call.specs.Call.{octetsIn, rowsIn, rowsOf, Buffers, Outcome, outcome, shaped, entered, roomy, roomyFor, shapeOf, told, ended, checked, callOf}
 use Rattle.ending.specs.Ran.{asShape, Posed}
 use Rattle.running.specs.Lent.{Roomed}
 use Rattle.tested.specs.Parts.{Slabbed}

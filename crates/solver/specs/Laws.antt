@@ -18,7 +18,7 @@ use mathlib.Core.Path.{_≡_, refl, sym, ap, _∙_, subst, fun-ext}
 use mathlib.Core.Logic.{_≢_, _↔_}
 use mathlib.Core.Bool.{Bool, true, false, cond}
 use mathlib.Core.List.{List, [], _∷_, _++_, map}
-use Prim.Native.Nat.{ℕ, zero, suc, _*_, _≤_, _<_}
+use Prim.Native.Nat.{ℕ, _≤_, _<_}
 use native.Mathlib.Nat.{le-of-eq}
 use native.Mathlib.Omega.{arith}
 use borrow.Author.Tests.{ltb-false}
@@ -37,14 +37,13 @@ use Rattle.algebra.specs.Flat.{Bytes, acts, undo-acts}
 use Rattle.algebra.specs.Slab.{Source, through, solved, only}
 use Rattle.loops.specs.Out.{Out}
 use Rattle.loops.specs.Way.{Way, go, halt}
-use Rattle.phases.specs.System.{Shape as Defined, range, combined, octet-rows}
+use Rattle.phases.specs.System.{Shape as Defined, combined, octet-rows}
 use Rattle.phases.specs.One.{Step, Phase, rows-of, pivots-of, phase-one, ops-one}
 use Rattle.phases.specs.Two.{Second, acts as actsOn, working as workingOf, forward}
-use Rattle.phases.specs.Rest.{by-column, by-substitution}
+use Rattle.phases.specs.Rest.{by-substitution}
 use Rattle.phases.specs.Run.{Run, End, solved as ends-solved, no-pivot, singular, whole, finish, second, refused, goes-on, defined, Answer as Told, ListFull, ending, answer}
 use Rattle.phases.specs.Fit.{Fit}
-use Rattle.phases.specs.Matrix.{length-range}
-use Rattle.phases.specs.Means.{Nulled}
+use Rattle.phases.specs.Means.{Nulled, length-by-column}
 use Rattle.phases.specs.Answers.{solved-reduces, singular-nulled}
 use Rattle.phases.specs.Answers as Ends
 use Rattle.call.specs.declared.Shape.{Shape}
@@ -52,11 +51,11 @@ use Rattle.answers.specs.declared.Answer.{Answer}
 use Rattle.answers.specs.declared.Answer.the-variants.{BadCount, BadShape, BadEntry, NoRoom}
 use Rattle.answers.specs.Answers.{numberOf}
 use Rattle.call.specs.Over.{over, take-over, at-over}
-use Rattle.call.specs.Call.{Octets, octetsIn, rowsIn, Working, Buffers, buffers, Outcome, outcome, shaped, entered, roomy, roomyFor, answerOf, ended, shapeOf, told, checked, counted, callOf}
+use Rattle.call.specs.Call.{Octets, octetsIn, rowsIn, Working, Buffers, buffers, Outcome, outcome, shaped, entered, roomyFor, answerOf, ended, shapeOf, told, checked, counted, callOf}
 use Rattle.ending.specs.Ran.{asShape, Posed, opsIn}
 use Rattle.running.specs.Lent.{Roomed}
 use Rattle.ending.specs.Told.{posed-fit, opsIn-told, told-says}
-use Rattle.solver.specs.Checked.{Tabled, Shaped, shaped-facts, tabled-given, tabled-none, posed-is, roomed-is, slabbed-is, at-run, at-table}
+use Rattle.solver.specs.Checked.{Tabled, Shaped, shaped-facts, tabled-given, tabled-none, posed-is, roomed-is, at-run, at-table}
 
 pub call-one : (k m t : ℕ) (bits : List ℕ) (o : Octets) (b : Buffers) (x y : Outcome) → x ≡ callOf k m t bits o b → y ≡ callOf k m t bits o b → x ≡ y
 call-one k m t bits o b x y e f = e ∙ sym f
@@ -116,9 +115,6 @@ answer-fits room r = full (ltb room (length (whole r))) refl
 
 -- order and vector have at most a place for each column
 module _ (z : Defined) (A : ℕ → ℕ → ℕ) where
-  length-by-column : (n : ℕ) (c xs : List ℕ) → length (by-column n c xs) ≡ n
-  length-by-column n c xs = length-map (range 0 n) _ ∙ length-range 0 n
-
   abbrev Short : Run → Type 0
   Short r = (length (ending r (r .end) .order) ≤ z .n) × (length (ending r (r .end) .vector) ≤ z .n)
 

@@ -11,18 +11,18 @@
 --   shrunk-then  what the step leaves, by its parts: the figures, then the labels for the pivot, then those for the other columns that go
 --   some-row     there is an eligible row
 -- Assumes nothing.
-use mathlib.Core.Path.{_≡_, refl, sym, ap, ap₂, subst, _∙_}
-use mathlib.Core.Logic.{_⊎_, inl, inr, ⊎-elim}
-use mathlib.Core.List.{List, [], _∷_, _++_}
-use mathlib.Core.Bool.{Bool, true, false}
-use Prim.Native.Nat.{ℕ, zero, suc, _+_, _-_, _*_, _≤_, _<_}
+use mathlib.Core.Path.{_≡_, sym, ap, subst, _∙_}
+use mathlib.Core.List.{List, _∷_, _++_}
+use mathlib.Core.Bool.{Bool, true}
+use Prim.Native.Nat.{ℕ, suc, _+_, _-_, _*_, _≤_, _<_}
 use native.Mathlib.Omega.{arith}
 use lib.ListN.{length, getD, take}
+use Rattle.rule.specs.Sets.{in-at}
 use Rattle.loops.specs.Part.{part}
-use Rattle.rule.specs.Lists.{In, Nodup, filter}
+use Rattle.rule.specs.Lists.{Nodup, filter}
 use Rattle.rule.specs.Permitted.{count}
 use Rattle.rule.specs.Rule.{Marks, addPairs, noted, nextSingles}
-use Rattle.grid.specs.Grid.{bit, Under, Rows, in-under}
+use Rattle.grid.specs.Grid.{bit, Under, Rows}
 use Rattle.singles.specs.Figures.{Fig, fig, Sound, Done, shrunk}
 use Rattle.singles.specs.Shrink.{Agree, Stepped, shrunk-is}
 use Rattle.labels.specs.Marking.{marksOf, Ready, Marked, Right, isNoted, notedBy, zeros, add-pairs-append}
@@ -65,11 +65,6 @@ pub record Shrunk (row : ℕ → ℕ → Bool) (x k : ℕ) (v e ones₀ s₀ : L
   pub kept : length labels ≡ length labels₀
   pub few : next + zeros labels ≤ next₀ + zeros labels₀
   pub ready : Ready labels next
-
-pub in-at : (ys : List ℕ) (k : ℕ) → k < length ys → In (getD ys k 0) ys
-in-at [] k h = absurd (omega arith)
-in-at (y ∷ ys) zero h = inl refl
-in-at (y ∷ ys) (suc k) h = inr (in-at ys k (omega arith))
 
 module _ {l : ℕ} {bits : List ℕ} {x k : ℕ} {v e ones s : List ℕ} {n : ℕ} {labels : List ℕ} {next : ℕ} (d : Due l bits x k v e ones s n labels next) where
   pub under-out : Under l (outOf k v)

@@ -30,35 +30,35 @@
 use mathlib.Core.Path.{_≡_, refl, sym, ap, ap₂, subst, fun-ext, _∙_}
 use mathlib.Core.Logic.{_⊎_, inl, inr, ⊎-elim}
 use mathlib.Core.List.{List, [], _∷_, _++_, append-assoc}
-use mathlib.Core.Bool.{Bool, true, false}
-use mathlib.Core.Option.{Option, some, none}
-use Prim.Native.Nat.{ℕ, zero, suc, _+_, _-_, _*_, _≤_, _<_}
+use mathlib.Core.Option.{Option, some}
+use Prim.Native.Nat.{ℕ, suc, _+_, _-_, _*_, _≤_, _<_}
 use native.Mathlib.Omega.{arith}
 use lib.ListN.{length, getD, take, drop, length-append}
 use lib.Dec.{eqb}
-use Rattle.loops.specs.Part.{part, put}
+use Rattle.phases.specs.Matrix.{length-range}
+use Rattle.loops.specs.Part.{part, put, row-within}
 use Rattle.rule.specs.Lists.{In, Nodup, leastPos}
-use Rattle.rule.specs.Sets.{bool-or, in-cast, sub-length}
+use Rattle.rule.specs.Sets.{bool-or, in-cast, sub-length, in-at}
 use Rattle.rule.specs.Singles.{Removed, exchanged}
 use borrow.Author.Tests.{eqb-true, eqb-false}
 use Rattle.rule.specs.Permitted.{count, Permitted}
-use Rattle.rule.specs.Rule.{State, Marks, choose, chosen, after, Cut, arrange, without, nextSingles, addPairs, noted}
+use Rattle.rule.specs.Rule.{Marks, choose, chosen, after, Cut, arrange, without, nextSingles, addPairs, noted}
 use Rattle.rule.specs.Step.{Arranged}
 use Rattle.rule.specs.Chosen.{Good}
 use Rattle.rule.specs.Reached.{reached-good}
 use Rattle.phases.specs.System.{Shape, range, first-rows, octet-rows}
 use Rattle.phases.specs.One.{Step, Phase, rows-of, pivots-of, one, degree, begin, taken, taking, step, phase-after}
 use Rattle.phases.specs.ByPlace.{rows-join, pivots-join, length-rows-of, length-pivots-of}
-use Rattle.phases.specs.Occ.{occ, occ-append, occ-range, in-member, member-in, once-nodup}
+use Rattle.phases.specs.Occ.{occ, occ-append, occ-range, in-member, once-nodup}
 use Rattle.phases.specs.Fit.{Fit, rows-below, cols-below, cols-once, less?}
 use Rattle.phases.specs.Fit as R
 use Rattle.phases.specs.Walk.{Walked, permitted, walked, cut-arranged, taken-walked}
-use Rattle.grid.specs.Grid.{bit, Under, Rows, row-within}
+use Rattle.grid.specs.Grid.{bit, Under, Rows}
 use Rattle.singles.specs.Figures.{Sound}
 use Rattle.singles.specs.Shrink.{Agree}
 use Rattle.labels.specs.Marking.{marksOf, Ready, zeros}
 use Rattle.columns.specs.Sweep.{laid}
-use Rattle.choice.specs.Told.{told, Tells, least-told, in-at}
+use Rattle.choice.specs.Told.{told, least-told}
 use Rattle.choice.specs.Choose.{Ready as Asked}
 use Rattle.stepping.specs.Parts.{mid-is, mid-put, tail-is, rest-part, out-part}
 use Rattle.stepping.specs.Due.{Due, Shrunk, restOf, outOf, belowOf}
@@ -94,10 +94,6 @@ pub record Stands (z : Shape) (bits : List ℕ) (p : Phase) (c d ones s labels :
 -- the first n of a list, as a slice has them
 first-part : (s : List ℕ) (n : ℕ) → take (n - 0) (drop 0 s) ≡ take n s
 first-part s n = let e : n - 0 ≡ n = omega arith in ap (λ (k : ℕ). take k s) e
-
-length-range : (a k : ℕ) → length (range a k) ≡ k
-length-range a zero = refl
-length-range a (suc k) = ap suc (length-range (suc a) k)
 
 module _ {z : Shape} {bits : List ℕ} {p : Phase} {c d ones s labels : List ℕ} {i u n next : ℕ} (g : Given z bits) (h : Stands z bits p c d ones s labels i u n next) where
   abbrev A : ℕ → ℕ → ℕ
@@ -252,9 +248,6 @@ module _ {z : Shape} {bits : List ℕ} {p : Phase} {c d ones s labels : List ℕ
     -- the columns and rows then
     module _ {c′ d′ : List ℕ} (pd : d′ ≡ put i (z .m - z .h - i) d (x ∷ without x (part i (z .m - z .h - i) d)))
         (pc : c′ ≡ put i (z .n - u - i) c (laid (arrange (bit (z .n) bits) (part i (z .n - u - i) c) x))) (ul : Under (z .n) (laid (arrange (bit (z .n) bits) (part i (z .n - u - i) c) x))) where
-      below : List ℕ
-      below = without x (p .now .elig)
-
       rows-now : d′ ≡ rows-of (p .steps) ++ ((x ∷ without x (p .now .elig)) ++ octet-rows z)
       rows-now = pd ∙ ap₂ (λ (a b : List ℕ). put i (z .m - z .h - i) a (x ∷ without x b)) (h .rows) rows-part
           ∙ mid-put (rows-of (p .steps)) (p .now .elig) (octet-rows z) (x ∷ without x (p .now .elig)) i (z .m - z .h - i) (h .i-is ∙ sym (length-rows-of (p .steps))) (omega (arith, rows-long))

@@ -3,21 +3,18 @@
 --   Turned      one step more, or the same where no row can be chosen
 --   stepped-on  slices that hold the phase with the chosen row taken hold the phase after one step more
 -- Assumes nothing.
-use mathlib.Core.Path.{_≡_, refl, sym, ap, subst, _∙_}
-use mathlib.Core.List.{List, [], _∷_}
-use mathlib.Core.Option.{Option, some, none}
-use Prim.Native.Nat.{ℕ, _+_, _-_, _≤_, _<_}
+use mathlib.Core.Path.{_≡_, sym, subst}
+use mathlib.Core.List.{List}
+use mathlib.Core.Option.{some, none}
+use Prim.Native.Nat.{ℕ, _+_, _-_}
 use native.Mathlib.Omega.{arith}
-use lib.ListN.{length, getD}
 use Rattle.phases.specs.System.{Shape as Defined}
 use Rattle.phases.specs.One.{Phase, taken}
-use Rattle.choice.specs.declared.Choice.{Choice}
-use Rattle.choice.specs.Choose.{rowOf}
 use Rattle.stepping.specs.declared.Shape.{Shape}
 use Rattle.stepping.specs.declared.State.{State}
 use Rattle.stepping.specs.declared.Made.{Made}
 use Rattle.stepping.specs.declared.Made.the-variants.{Stepped, Nothing}
-use Rattle.stepping.specs.Stands.{plain, Given, Stands, Standing, At, rowAt, at-some}
+use Rattle.stepping.specs.Stands.{plain, Stands, Standing, At, rowAt, at-some}
 
 abbrev pub asShape : Shape → Defined
 asShape z = record { m = z .m; n = z .l; s = z .s; h = z .h; w = z .w }

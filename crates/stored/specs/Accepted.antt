@@ -19,9 +19,7 @@ use lib.Dec.{leb}
 use lib.ListN.{length, drop, length-drop}
 use Rattle.oplist.specs.Check.{mostOps, shapeFine, listFine, orderFine}
 use Rattle.oplist.specs.Facts.{and-left, and-right, shapeFine-shape}
-use Rattle.stored.specs.declared.Reading.{Reading}
 use Rattle.stored.specs.declared.Reading.the-variants as read
-use Rattle.stored.specs.declared.Written.{Written}
 use Rattle.stored.specs.declared.Written.the-variants as written
 use Rattle.oplist.specs.Listed.{opsOf}
 use Rattle.stored.specs.Bytes.{padded}

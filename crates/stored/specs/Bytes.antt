@@ -8,15 +8,13 @@
 --   getD-padded, length-padded   its entries are the list's, and 0 past them; it has that length, if the list is no longer
 --   getD-out             past the end of a list stands 0
 --   fill-begin, fill-turn   a loop that fills a room so begins, and makes a turn
---   rest-part            what is left from a place on, as the checker has it
 -- Assumes nothing.
 use Prim.Native.Nat.{ℕ, zero, suc, _+_, _-_, _*_, _/_, _%_, _<_, _≤_}
 use mathlib.Core.Path.{_≡_, refl, sym, _∙_}
 use mathlib.Core.List.{List, [], _∷_, _++_}
 use native.Mathlib.Nat.{div-add-mod', div-div-eq-div-mul}
 use native.Mathlib.Omega.{arith}
-use lib.ListN.{length, getD, set, take, drop, replicate, length-append, length-drop, length-replicate, List·getD-eq-default}
-use lib.Seq.{take-all}
+use lib.ListN.{length, getD, set, replicate, length-append, length-replicate, List·getD-eq-default}
 use Rattle.loops.specs.Front.{Front, begin, turn}
 
 abbrev pub number2 : List ℕ → ℕ → ℕ
@@ -85,9 +83,6 @@ number4-digits4 x h =
     let e : x / 65536 / 256 ≡ x / 16777216 = div-div-eq-div-mul x 65536 256 in
     let f : x / 16777216 % 256 ≡ x / 16777216 = omega arith in
     omega arith
-
-pub rest-part : (b : List ℕ) (at : ℕ) → take (length b - at) (drop at b) ≡ drop at b
-rest-part b at = take-all (length b - at) (drop at b) (rw length-drop (omega arith))
 
 pub fill-begin : (xs d : List ℕ) → length xs ≤ length d → Front (padded xs (length d)) d d 0
 fill-begin xs d h = begin (length-padded xs (length d) h)

@@ -18,15 +18,15 @@ use borrow.Author.Tests.{eqb-true, eqb-false}
 use lib.Dec.{eqb}
 use lib.ListN.{length, getD, drop}
 use lib.Seq.{getD-drop, drop-drop}
+use Rattle.loops.specs.Part.{drop-next}
 use Rattle.oplist.specs.declared.Op.{Op}
 use Rattle.oplist.specs.declared.Op.the-variants.{AddAssign, MulAssign, FMA}
 use Rattle.oplist.specs.declared.Word.{Word}
 use Rattle.oplist.specs.declared.Word.the-variants.{Known, Unknown}
 use Rattle.oplist.specs.Word.{word, kindOf, scalarOf, destOf, srcOf, packed, meaning, Small, Fields, fields, packed-meaning}
-use Rattle.oplist.specs.Listed.{isKnown, withOp, known, opsOf, drop-next, packed-opsOf, length-opsOf}
+use Rattle.oplist.specs.Listed.{isKnown, withOp, known, opsOf, packed-opsOf, length-opsOf}
 use Rattle.oplist.specs.Check.{shapeFine, listFine, orderFine}
 use Rattle.oplist.specs.Facts.{never, listFine-known, shapeFine-shape}
-use Rattle.stored.specs.declared.Reading.{Reading}
 use Rattle.stored.specs.declared.Reading.the-variants as read
 use Rattle.stored.specs.declared.Written.the-variants as written
 use Rattle.stored.specs.Bytes.{number4, digits2, digits4, Bytes, padded, number2-digits2, number4-digits4, digits2-number2, digits4-number4}

@@ -20,7 +20,7 @@ use native.Mathlib.Omega.{arith}
 use borrow.Author.Tests.{eq-eqb, ne-eqb, le-leb, lt-leb, leb-true, eqb-true}
 use lib.Dec.{eqb, leb, ltb}
 use lib.ListN.{length, getD, take, drop, drop-of-length-le}
-use Rattle.systems.specs.Text.{drop-next}
+use Rattle.loops.specs.Part.{drop-next}
 
 -- 0 to 9, then a to f
 unfoldable pub nibbleOf : ℕ → ℕ

@@ -16,7 +16,7 @@
 --   head-first, head-second, head-third, head-fourth   one that goes wrong at a number
 --   head-long, head-flag, head-is   one that goes on after the numbers, one whose flag is above 1, and one that does not go wrong
 --   placed-full, placed-bad, placed-in, row-none, row-some   the tests of a row
---   part-long, rest-part   a part of a buffer, and the rest of a line, as the checker has them
+--   part-long   how long a part of a buffer is, as the checker has it
 --   line-bits, line-octets, line-slab, line-size, line-go, line-other   the kinds of a line
 -- Assumes nothing.
 use Prim.Native.Nat.{ℕ, _+_, _-_, _/_, _≤_, _<_}
@@ -27,8 +27,8 @@ use native.Mathlib.Omega.{arith}
 use borrow.Author.Tests.{eq-eqb, ne-eqb, le-leb, lt-leb, lt-ltb, le-ltb}
 use lib.Dec.{eqb, leb, ltb}
 use lib.ListN.{length, take, drop, length-drop}
-use lib.Seq.{length-take-le, take-all}
-use Rattle.loops.specs.Part.{put}
+use lib.Seq.{length-take-le}
+use Rattle.loops.specs.Part.{put, rest-part}
 use Rattle.params.specs.Params.{paramsOf}
 use Rattle.params.specs.declared.Parameters.{Parameters}
 use Rattle.params.specs.declared.Parameters.the-variants.{Found as Entry, BadCount}
@@ -205,9 +205,6 @@ module _ (s : System) (buffer : List ℕ) (f : Filled) where
 
 pub part-long : (m : List ℕ) (a n k : ℕ) → n ≤ length m - a → k ≡ n → length (take k (drop a m)) ≡ n
 part-long m a n k h e = rw e (length-take-le n (drop a m) (rw length-drop h))
-
-pub rest-part : (line : List ℕ) (at : ℕ) → take (length line - at) (drop at line) ≡ drop at line
-rest-part line at = take-all (length line - at) (drop at line) (rw length-drop (omega arith))
 
 module _ (good : Bool) (used n : ℕ) (row buffer : List ℕ) (next : System) where
   pub placed-full : length buffer - used < n → filled Malformed buffer ≡ placed good used n row buffer next

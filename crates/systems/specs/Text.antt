@@ -6,7 +6,6 @@
 --   numberOf at t   the same with a digit at least
 --   newlines t      how many newlines there are
 --   lineNumberOf t i   the number of the line that place i is in
---   drop-next       what is left from a place on is the byte there, and what is left from the next on
 --   end-here, end-next, end-over             a loop that looks for a line's end
 --   starts-out, starts-other, starts-next, starts-over   a loop that compares a word
 --   starts-long     a line is as long as the word that it starts with
@@ -20,12 +19,12 @@ use Prim.Native.Nat.{ℕ, suc, _+_, _-_, _*_, _≤_, _<_}
 use mathlib.Core.Path.{_≡_, refl, sym, ap, _∙_}
 use mathlib.Core.Bool.{Bool, true, false, cond, _&&_}
 use mathlib.Core.List.{List, [], _∷_}
-use native.Mathlib.Numerals.{add-one}
 use native.Mathlib.Omega.{arith}
 use borrow.Author.Tests.{eq-eqb, ne-eqb, le-leb, lt-leb, lt-ltb, le-ltb}
 use lib.Dec.{eqb, leb, ltb}
 use lib.ListN.{length, getD, take, drop, length-drop, drop-of-length-le}
-use lib.Seq.{drop-cons, drop-drop, length-take-le, take-nil}
+use lib.Seq.{drop-drop, length-take-le, take-nil}
+use Rattle.loops.specs.Part.{drop-next}
 use Rattle.systems.specs.declared.told.Number.{Number}
 use Rattle.systems.specs.declared.told.Number.the-variants.{Found, Malformed}
 
@@ -65,9 +64,6 @@ newlines (x ∷ xs) = cond (eqb x 10) (suc (newlines xs)) (newlines xs)
 -- the first line is 1, and a newline is the last byte of its line
 unfoldable pub lineNumberOf : List ℕ → ℕ → ℕ
 lineNumberOf t i = 1 + newlines (take i t)
-
-pub drop-next : (t : List ℕ) (i : ℕ) → i < length t → drop i t ≡ getD t i 0 ∷ drop (i + 1) t
-drop-next t i h = rw (add-one, drop-cons t i 0)
 
 module _ (t : List ℕ) (i : ℕ) where
   pub end-here : i < length t → getD t i 0 ≡ 10 → i ≡ i + endOf (drop i t)

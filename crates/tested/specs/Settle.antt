@@ -3,10 +3,10 @@
 --   settling-is      what the run left is such a list
 --   ended-is         the buffers after that are those of the definition
 -- Assumes nothing.
-use mathlib.Core.Path.{_≡_, refl, sym, ap, ap₂, _∙_, subst}
+use mathlib.Core.Path.{_≡_, ap, _∙_}
 use mathlib.Core.Bool.{true, false}
 use mathlib.Core.List.{List, map}
-use Prim.Native.Nat.{ℕ, _-_, _*_, _≤_}
+use Prim.Native.Nat.{ℕ, _-_, _*_}
 use native.Mathlib.Omega.{arith}
 use borrow.Author.Tests.{le-leb, eq-eqb}
 use lib.ListN.{length, take, drop}
@@ -22,9 +22,9 @@ use Rattle.algebra.specs.Flat.{Bytes, acts}
 use Rattle.phases.specs.Run.{Answer as Told}
 use Rattle.call.specs.declared.Shape.{Shape}
 use Rattle.answers.specs.declared.Answer.{Answer}
-use Rattle.call.specs.Over.{over, keep, over-same}
-use Rattle.call.specs.Call.{Working, wiped, Buffers, buffers, outcome, answerOf, left, ended, told}
-use Rattle.ending.specs.Ran.{asShape, Posed, Ran, opsIn}
+use Rattle.call.specs.Over.{over, over-same}
+use Rattle.call.specs.Call.{Working, buffers, outcome, ended, told}
+use Rattle.ending.specs.Ran.{asShape, Posed, opsIn}
 use Rattle.running.specs.Lent.{Worked}
 use Rattle.tested.specs.Parts.{Settling, Settled, Slabbed}
 use Rattle.ending.specs.Told.{opsIn-told, told-says, told-words}

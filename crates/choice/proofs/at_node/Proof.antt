@@ -1,7 +1,8 @@
 -- `choice::at_node` meets its contract. Assumes nothing.
 use lib.ListN.{length, getD}
+use Rattle.rule.specs.Labels.{and-both}
 use Rattle.columns.specs.First.{Seeking, seek-start, seek-next, seek-found, seek-end}
-use Rattle.choice.specs.Told.{told, and-yes, and-left, and-right}
+use Rattle.choice.specs.Told.{told, and-left, and-right}
 use Rattle.grid.specs.Grid.{bit}
 use mathlib.Core.Path.{sym, _∙_}
 use mathlib.Core.Bool.{_&&_}
@@ -41,7 +42,7 @@ has-requires c κs =
     ((s .pre .1 .0 .at) (c .before .before .before .before .loop .k) (c .before .before .before .loop-test .taken), omega (arith, s .pre .0))
 
 returns : tie.Need-returns Inv-loop μ-loop
-returns c = seek-found (c .before .before .before .before .before .before .loop .inv) (c .before .before .before .before .before .loop-test .taken) (and-yes _ _ (sym (c .before .has .ensures) ∙ (c .if2 .taken)) (eq-eqb _ _ (c .before .before .if1 .taken)))
+returns c = seek-found (c .before .before .before .before .before .before .loop .inv) (c .before .before .before .before .before .loop-test .taken) (and-both _ _ (sym (c .before .has .ensures) ∙ (c .if2 .taken)) (eq-eqb _ _ (c .before .before .if1 .taken)))
 
 add-k : tie.Need-add-k Inv-loop μ-loop
 add-k c = search needs

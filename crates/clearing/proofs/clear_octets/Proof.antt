@@ -1,12 +1,12 @@
 -- `clearing::clear_octets` meets its contract: what is left to record of the octet rows. Assumes nothing.
-use mathlib.Core.Path.{refl, sym, _∙_}
 use mathlib.Core.Logic.{⊎-elim}
 use Prim.Native.Nat.{_+_, _-_, _*_}
-use lib.ListN.{length, getD}
+use lib.ListN.{getD}
 use native.Mathlib.Omega.{arith}
 use borrow.Author.Needs.{needs}
+use Rattle.oplist.specs.Multiple.{small-multiple}
 use Rattle.tally.specs.Book.{book}
-use Rattle.clearing.specs.Clear.{Multiples, octet-start, octet-within, octet-none, octet-next, octet-end, small-multiple}
+use Rattle.clearing.specs.Clear.{Multiples, octet-start, octet-within, octet-none, octet-next, octet-end}
 use Rattle.clearing.proofs.clear_octets.Statement.{statement}
 use Rattle.clearing.proofs.clear_octets.Tie as tie
 

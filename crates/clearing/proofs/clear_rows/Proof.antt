@@ -1,8 +1,8 @@
 -- `clearing::clear_rows` meets its contract: what is left to record of ys. Assumes nothing.
-use mathlib.Core.Path.{refl, sym, _∙_}
+use mathlib.Core.Path.{sym, _∙_}
 use mathlib.Core.Logic.{⊎-elim}
-use Prim.Native.Nat.{_+_, _-_, _*_}
-use lib.ListN.{length, getD}
+use Prim.Native.Nat.{_-_}
+use lib.ListN.{length}
 use native.Mathlib.Omega.{arith}
 use borrow.Author.Needs.{needs}
 use Rattle.tally.specs.Book.{book}

@@ -1,7 +1,6 @@
-use Prim.Native.Nat.{_+_, _-_}
+use Prim.Native.Nat.{_-_}
 use lib.ListN.{getD}
 use Rattle.firstphase.specs.Clears.{belowAt}
-use mathlib.Core.Path.{refl}
 use Rattle.loops.specs.Part.{part}
 use Rattle.clearing.specs.Clear.{cleared}
 use Rattle.stepping.specs.Turns.{asShape}

@@ -1,7 +1,7 @@
 use Rattle.tally.specs.Book.{book}
 use Rattle.stepping.specs.Turns.{asShape}
 use Rattle.firstphase.specs.Same.{whole}
-use mathlib.Core.Path.{_≡_, refl, sym, ap, _∙_}
+use mathlib.Core.Path.{refl}
 use Rattle.labels.specs.Marking.{as-long}
 use Rattle.firstphase.specs.Begins.{opens, opened-standing, opened-degrees}
 use native.Mathlib.Omega.{arith}

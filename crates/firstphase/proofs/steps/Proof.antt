@@ -1,5 +1,5 @@
-use mathlib.Core.Path.{_≡_, refl, sym, ap, _∙_}
-use Prim.Native.Nat.{_+_, _-_, _≤_, _<_}
+use mathlib.Core.Path.{_∙_}
+use Prim.Native.Nat.{_-_}
 use lib.ListN.{length}
 use Rattle.tally.specs.Book.{book}
 use Rattle.stepping.specs.Turns.{asShape}

@@ -1,9 +1,8 @@
 use Rattle.grid.specs.Grid.{fill-row}
-use mathlib.Core.Path.{_≡_, refl, sym, ap, _∙_}
-use Prim.Native.Nat.{_+_, _-_, _≤_, _<_}
-use lib.ListN.{length, drop}
+use Prim.Native.Nat.{_-_}
+use lib.ListN.{length}
 use Rattle.rule.specs.Permitted.{count}
-use Rattle.grid.specs.Grid.{bit, Filled, fill-start, fill-next, fill-end, row-within}
+use Rattle.grid.specs.Grid.{bit, Filled, fill-start, fill-next, fill-end}
 use native.Mathlib.Omega.{arith}
 use borrow.Author.Needs.{needs}
 use Rattle.grid.proofs.counts.Statement.{statement}

@@ -1,11 +1,9 @@
-use mathlib.Core.Path.{_≡_, refl, sym, ap, subst, _∙_}
-use Prim.Native.Nat.{ℕ, _+_, _-_, _<_, _≤_}
+use mathlib.Core.Path.{sym, _∙_}
+use Prim.Native.Nat.{_-_}
 use mathlib.Core.Logic.{⊎-elim}
 use native.Mathlib.Omega.{arith}
 use borrow.Author.Needs.{needs}
 use lib.ListN.{length}
-use Rattle.rule.specs.Rule.{joint, nextLabel, relabel}
-use Rattle.labels.specs.Labs.{labs, hit}
 use Rattle.labels.specs.Facts.{Part, part-start, part-set, part-skip, part-end}
 use Rattle.labels.proofs.add_pair.Statement.{statement}
 use Rattle.labels.proofs.add_pair.Tie as tie

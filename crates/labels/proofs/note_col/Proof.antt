@@ -1,7 +1,7 @@
 use Rattle.labels.specs.Marking.{as-long}
-use mathlib.Core.Path.{_≡_, refl, sym, ap, _∙_}
+use mathlib.Core.Path.{sym, _∙_}
 use mathlib.Core.Logic.{⊎-elim}
-use Prim.Native.Nat.{ℕ, _+_, _-_, _≤_, _<_}
+use Prim.Native.Nat.{_-_}
 use lib.ListN.{length}
 use Rattle.grid.specs.Grid.{bit}
 use Rattle.labels.specs.Marking.{Joining, join-start, join-hit, join-skip, join-end, isNoted, noted-two}

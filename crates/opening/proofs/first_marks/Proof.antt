@@ -1,6 +1,5 @@
 -- `opening::first_marks` meets its contract: no labels, then the pairs, then the numbers. Assumes nothing.
-use mathlib.Core.Path.{_≡_, refl, sym, _∙_}
-use lib.ListN.{length}
+use mathlib.Core.Path.{refl, _∙_}
 use native.Mathlib.Omega.{arith}
 use borrow.Author.Needs.{needs}
 use Rattle.opening.specs.Marks.{blank-ready, given-columns, given-long, given-upto, given-low, given-outside, given-marked}

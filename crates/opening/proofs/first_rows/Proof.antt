@@ -1,5 +1,5 @@
 -- `opening::first_rows` meets its contract: one octet row after another is exchanged. Assumes nothing.
-use mathlib.Core.Path.{refl, sym, _∙_}
+use mathlib.Core.Path.{_∙_}
 use Prim.Native.Nat.{_-_}
 use lib.ListN.{length}
 use native.Mathlib.Omega.{arith}

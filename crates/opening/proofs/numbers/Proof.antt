@@ -1,5 +1,4 @@
 -- `opening::numbers` meets its contract: the list is made from the front. Assumes nothing.
-use mathlib.Core.Path.{refl, sym, _∙_}
 use Prim.Native.Nat.{_-_}
 use lib.ListN.{length}
 use native.Mathlib.Omega.{arith}

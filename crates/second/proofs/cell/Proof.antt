@@ -1,7 +1,7 @@
 -- `second::cell` meets its contract. Assumes nothing.
 use mathlib.Core.Path.{refl}
 use native.Mathlib.Omega.{arith}
-use Rattle.second.specs.Store.{row-within}
+use Rattle.loops.specs.Part.{row-within}
 use Rattle.second.proofs.cell.Statement.{statement}
 use Rattle.second.proofs.cell.Tie as tie
 

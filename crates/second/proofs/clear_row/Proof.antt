@@ -2,9 +2,10 @@
 use mathlib.Core.Path.{_∙_, sym, ap}
 use mathlib.Core.List.{[], _∷_}
 use Prim.Native.Nat.{ℕ}
+use Rattle.phases.specs.Forward.{entry-multiple}
 use Rattle.oplist.specs.declared.Op.{Op}
 use Rattle.phases.specs.One.{entry}
-use Rattle.second.specs.Clear.{Fit, fit-multiple, entry-multiple, performed-as, performed-none}
+use Rattle.second.specs.Clear.{Fit, fit-multiple, performed-as, performed-none}
 use native.Mathlib.Omega.{arith}
 use borrow.Author.Needs.{needs}
 use Rattle.second.proofs.clear_row.Statement.{statement}
@@ -22,7 +23,7 @@ returns c =
     performed-as (ap (λ (n : ℕ). entry n (a .y) (a .x) []) (sym (c .if1 .taken) ∙ c .before .read .ensures)) performed-none
 
 multiple-of-requires : tie.Need-multiple-of-requires
-multiple-of-requires c κs = search needs
+multiple-of-requires c κs = tt
 
 perform-requires : tie.Need-perform-requires
 perform-requires c κs =

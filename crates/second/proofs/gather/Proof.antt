@@ -3,8 +3,8 @@ use mathlib.Core.Path.{sym, _∙_}
 use mathlib.Core.List.{map}
 use Prim.Native.Nat.{ℕ, _-_, _<_}
 use lib.ListN.{length, getD, length-map}
+use Rattle.phases.specs.Matrix.{getD-map}
 use Rattle.loops.specs.Front.{Front, begin, turn, end}
-use Rattle.second.specs.Fill.{getD-map-below}
 use native.Mathlib.Omega.{arith}
 use Rattle.second.proofs.gather.Statement.{statement}
 use Rattle.second.proofs.gather.Tie as tie
@@ -42,7 +42,7 @@ loop-again : tie.Need-loop-again Inv-loop μ-loop
 loop-again c =
     let a = c .before .before .before .before .args in
     let o = c .before .before .before .loop in
-    turn (o .inv) (omega arith) (sym (getD-map-below (λ (q : ℕ). getD (a .row .now) q 0) (a .cols .now) (o .k) (omega arith)))
+    turn (o .inv) (omega arith) (sym (getD-map (λ (q : ℕ). getD (a .row .now) q 0) (a .cols .now) (o .k) (omega arith)))
 
 same-length : tie.Need-same-length Inv-loop μ-loop
 same-length c = c .before .loop .inv .long

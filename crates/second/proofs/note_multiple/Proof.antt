@@ -2,9 +2,10 @@
 use mathlib.Core.Path.{sym, ap, _∙_}
 use mathlib.Core.List.{[], _∷_}
 use Prim.Native.Nat.{ℕ}
+use Rattle.oplist.specs.Multiple.{small-multiple}
+use Rattle.phases.specs.Forward.{entry-multiple}
 use Rattle.oplist.specs.declared.Op.{Op}
 use Rattle.phases.specs.One.{entry}
-use Rattle.second.specs.Clear.{entry-multiple, small-multiple}
 use Rattle.second.specs.Backward.{cleared-none, cleared-one, cleared-as}
 use native.Mathlib.Omega.{arith}
 use borrow.Author.Needs.{needs}
@@ -15,12 +16,12 @@ returns : tie.Need-returns
 returns c = cleared-as (ap (λ (n : ℕ). entry n (c .before .before .args .y) (c .before .before .args .x) []) (sym (c .if1 .taken))) cleared-none
 
 multiple-of-requires : tie.Need-multiple-of-requires
-multiple-of-requires c κs = search needs
+multiple-of-requires c κs = tt
 
 record-requires : tie.Need-record-requires
 record-requires c κs =
     let a = c .before .before .before .before .args in
-    (rw (c .before .multiple-of .ensures) (small-multiple (a .c) (a .y) (a .x) (c .before .before .before .before .pre .1 .0) (c .before .before .before .before .pre .1 .1) (omega (arith, c .before .before .before .before))), c .before .before .before .before .pre .0)
+    (small-multiple (a .c) (a .y) (a .x) (omega (arith, c .before .before .before .before)) (c .before .before .before .before .pre .1 .0) (c .before .before .before .before .pre .1 .1) (c .before .multiple-of .ensures), c .before .before .before .before .pre .0)
 
 same-length : tie.Need-same-length
 same-length c = search needs

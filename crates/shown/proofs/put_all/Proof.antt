@@ -4,8 +4,8 @@ use mathlib.Core.Path.{_≡_, refl}
 use native.Mathlib.Omega.{arith}
 use borrow.Author.Needs.{needs}
 use lib.ListN.{length, drop, drop-of-length-le}
+use Rattle.loops.specs.Part.{drop-next}
 use Rattle.loops.specs.Room.{log, puts}
-use Rattle.oplist.specs.Listed.{drop-next}
 use Rattle.shown.specs.Put.{byte, one, turn, over}
 use Rattle.shown.proofs.put_all.Statement.{statement}
 use Rattle.shown.proofs.put_all.Tie as tie

@@ -1,7 +1,5 @@
 use Rattle.singles.specs.Figures.{step-one, step-more, rows-tail, under-tail, under-head, under-still}
-use mathlib.Core.Path.{_≡_, refl, sym, ap, _∙_}
-use Prim.Native.Nat.{ℕ, _<_, _+_, _*_, _≤_}
-use lib.ListN.{length}
+use mathlib.Core.Path.{_∙_}
 use native.Mathlib.Omega.{arith}
 use borrow.Author.Needs.{needs}
 use Rattle.singles.proofs.next_singles.Statement.{statement}

@@ -1,5 +1,4 @@
-use mathlib.Core.Path.{_≡_, refl, sym, ap, _∙_}
-use Prim.Native.Nat.{ℕ, _-_, _≤_, _<_}
+use Prim.Native.Nat.{_-_}
 use Rattle.loops.specs.Part.{part}
 use Rattle.stepping.specs.Due.{under-out, under-rest, pivot-low, rows-below, figured-below, right-then, shrunk-then, some-row}
 use Rattle.labels.specs.Marking.{as-long}

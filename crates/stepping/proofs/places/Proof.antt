@@ -1,6 +1,6 @@
 use mathlib.Core.Path.{subst}
 use Rattle.grid.specs.Grid.{Under}
-use mathlib.Core.Path.{_≡_, refl, sym, ap, _∙_}
+use mathlib.Core.Path.{ap}
 use mathlib.Core.List.{List, _++_}
 use Prim.Native.Nat.{ℕ, _-_}
 use lib.ListN.{take, drop}

@@ -1,6 +1,6 @@
-use mathlib.Core.Path.{_≡_, refl, sym, ap, _∙_}
-use Prim.Native.Nat.{_+_, _-_, _≤_, _<_}
-use Rattle.loops.specs.Part.{part, put}
+use mathlib.Core.Path.{refl}
+use Prim.Native.Nat.{_-_}
+use Rattle.loops.specs.Part.{part}
 use Rattle.stepping.specs.Stands.{u-fits, bounds, x-figured, x-in, x-fits, ones-is, ones-some, part-under, cut-room, u-next, i-next, bounds-now, due-then, stands-next}
 use Rattle.stepping.specs.Turns.{stepped-on}
 use native.Mathlib.Omega.{arith}

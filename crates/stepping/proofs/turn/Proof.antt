@@ -1,6 +1,6 @@
-use mathlib.Core.Path.{_≡_, refl, sym, ap, _∙_}
-use Prim.Native.Nat.{_+_, _-_, _≤_, _<_}
-use Rattle.loops.specs.Part.{part, put}
+use mathlib.Core.Path.{sym, ap, _∙_}
+use Prim.Native.Nat.{_-_}
+use Rattle.loops.specs.Part.{part}
 use Rattle.choice.specs.Choose.{rowOf}
 use Rattle.stepping.specs.Stands.{u-fits, bounds, rule-ready, least-is, elig-under, singles-under, chosen-is}
 use native.Mathlib.Omega.{arith}

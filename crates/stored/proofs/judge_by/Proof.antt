@@ -3,8 +3,8 @@ use Prim.Native.Nat.{_+_, _*_}
 use mathlib.Core.Path.{sym, ap, _∙_}
 use borrow.Author.Needs.{needs}
 use borrow.Author.Tests.{le-leb, lt-leb, not-true, not-false}
+use Rattle.loops.specs.Part.{rest-part}
 use Rattle.oplist.specs.Check.{orderFine}
-use Rattle.stored.specs.Bytes.{rest-part}
 use Rattle.stored.specs.Answers.{judgedBy}
 use Rattle.stored.proofs.judge_by.Statement.{statement}
 use Rattle.stored.proofs.judge_by.Tie as tie

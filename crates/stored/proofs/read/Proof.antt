@@ -5,7 +5,8 @@ use mathlib.Core.List.{List}
 use native.Mathlib.Omega.{arith}
 use borrow.Author.Needs.{needs}
 use lib.ListN.{length}
-use Rattle.stored.specs.Bytes.{padded, rest-part}
+use Rattle.loops.specs.Part.{rest-part}
+use Rattle.stored.specs.Bytes.{padded}
 use Rattle.stored.specs.Answers.{read-as}
 use Rattle.stored.specs.Accepted.{judged-accepted, kept-placed, kept-read}
 use Rattle.stored.proofs.read.Statement.{statement}

@@ -1,7 +1,7 @@
 -- `list::apply_all` meets its contract. Assumes nothing.
-use mathlib.Core.Path.{_≡_, refl, _∙_, subst}
+use mathlib.Core.Path.{_≡_, refl, _∙_}
 use Prim.Native.Nat.{_-_}
-use lib.ListN.{length, getD}
+use lib.ListN.{length}
 use Rattle.slab.specs.Turns.{Up, up-start, up-next, up-end, placed-at}
 use native.Mathlib.Omega.{arith}
 use borrow.Author.Needs.{needs}

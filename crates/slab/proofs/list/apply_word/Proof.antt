@@ -3,7 +3,7 @@ use mathlib.Core.Path.{subst, sym, _∙_}
 use lib.ListN.{length}
 use Rattle.oplist.specs.declared.Word.{Word}
 use Rattle.algebra.specs.Flat.{acts}
-use Rattle.slab.specs.Turns.{PlacedWord, wordOps}
+use Rattle.slab.specs.Turns.{PlacedWord}
 use native.Mathlib.Omega.{arith}
 use borrow.Author.Needs.{needs}
 use Rattle.slab.proofs.list.apply_word.Statement.{statement}

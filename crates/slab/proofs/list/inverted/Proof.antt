@@ -1,6 +1,4 @@
 -- `list::inverted` meets its contract. Assumes nothing.
-use mathlib.Core.Path.{ap}
-use Rattle.oplist.specs.declared.Op.the-variants.{MulAssign}
 use native.Mathlib.Omega.{arith}
 use borrow.Author.Needs.{needs}
 use Rattle.slab.proofs.list.inverted.Statement.{statement}

@@ -1,11 +1,8 @@
 -- `list::undo_word` meets its contract. Assumes nothing.
-use mathlib.Core.Path.{subst, sym, _∙_}
+use mathlib.Core.Path.{sym, _∙_}
 use lib.ListN.{length}
-use Rattle.oplist.specs.declared.Op.{Op}
-use Rattle.oplist.specs.declared.Word.{Word}
 use Rattle.algebra.specs.Flat.{acts}
-use Rattle.slab.specs.Placed.{Placed}
-use Rattle.slab.specs.Turns.{PlacedWord, wordOps, placed-inverse}
+use Rattle.slab.specs.Turns.{placed-inverse}
 use native.Mathlib.Omega.{arith}
 use borrow.Author.Needs.{needs}
 use Rattle.slab.proofs.list.undo_word.Statement.{statement}

@@ -1,8 +1,7 @@
 -- `row::apply` meets its contract: each arm has its rows' places from the `requires`, and what it did to parts is the operation. Assumes nothing.
-use mathlib.Core.Path.{subst, sym, _∙_, ap}
+use mathlib.Core.Path.{subst, _∙_}
 use lib.ListN.{length}
 use Rattle.oplist.specs.declared.Op.{Op}
-use Rattle.algebra.specs.Flat.{act}
 use Rattle.slab.specs.Placed.{Placed, act-add, act-scale, act-fma}
 use native.Mathlib.Omega.{arith}
 use borrow.Author.Needs.{needs}

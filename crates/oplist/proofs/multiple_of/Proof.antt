@@ -1,7 +1,7 @@
--- `clearing::multiple_of` meets its contract. Assumes nothing.
-use Rattle.clearing.specs.Clear.{multiple-one, multiple-more}
-use Rattle.clearing.proofs.multiple_of.Statement.{statement}
-use Rattle.clearing.proofs.multiple_of.Tie as tie
+-- `oplist::multiple_of` meets its contract. Assumes nothing.
+use Rattle.oplist.specs.Multiple.{multiple-one, multiple-more}
+use Rattle.oplist.proofs.multiple_of.Statement.{statement}
+use Rattle.oplist.proofs.multiple_of.Tie as tie
 
 returns : tie.Need-returns
 returns c = multiple-one _ _ _ (c .if1 .taken)
