@@ -1,8 +1,9 @@
 // What a call answers, the number of each answer, what the receiver shows for it, and the rooms that a call needs.
 ghost use mathlib.Core.Path.{_≡_};
 ghost use Prim.Native.Nat.{_≤_};
+ghost use Rattle.bounds.specs.Bounds.{mostRows};
 ghost use Rattle.answers.specs.Answers.{numberOf, shownOf};
-ghost use Rattle.answers.specs.Rooms.{roomsOf, needOf};
+ghost use Rattle.answers.specs.Rooms.{roomsOf, Needed};
 
 // The additions and multiplications of a phase.
 pub struct Counts {
@@ -43,8 +44,10 @@ pub enum Display {
     ShortOfRank,
 }
 
-// How many entries each working slice has to hold, and how many bytes they take in all.
+// How many entries order, vector and each working slice have to hold, and how many bytes the working slices take in all.
 pub struct Rooms {
+    pub order: usize,
+    pub vector: usize,
     pub work: usize,
     pub scratch: usize,
     pub columns: usize,
@@ -57,6 +60,7 @@ pub struct Rooms {
     pub bytes: usize,
 }
 
+// What `needs` answers: the needs, or that m and l are out of bounds.
 pub enum Need {
     Entries(Rooms),
     BadShape,
@@ -94,9 +98,9 @@ pub fn shown(a: Answer) -> Display
     }
 }
 
-// The working room for m rows and l columns, for any number of octet rows; order and vector take l entries each.
+// The rooms for m rows and l columns, for any number of octet rows.
 pub fn needs(m: usize, l: usize) -> Need
-    ensures { λ r. ⌜ r ≡ needOf m l ⌝ }
+    ensures { λ r. ⌜ Needed m l r ⌝ }
 {
     if l < 1 {
         return Need::BadShape;
@@ -104,18 +108,20 @@ pub fn needs(m: usize, l: usize) -> Need
     if m < l {
         return Need::BadShape;
     }
-    if params::MOST_ROWS < m {
+    if bounds::MOST_ROWS < m {
         return Need::BadShape;
     }
     Need::Entries(rooms_for(m, l))
 }
 
-// The needs of the working slices for m rows and l columns.
+// The needs of order, vector and the working slices for m rows and l columns.
 pub fn rooms_for(m: usize, l: usize) -> Rooms
-    requires { ⌜ (m ≤ 256) × (l ≤ 256) ⌝ }
+    requires { ⌜ (m ≤ mostRows) × (l ≤ mostRows) ⌝ }
     ensures { λ r. ⌜ r ≡ roomsOf m l ⌝ }
 {
     Rooms {
+        order: l,
+        vector: l,
         work: m * l,
         scratch: l,
         columns: l,

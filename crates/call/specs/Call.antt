@@ -23,13 +23,12 @@ use mathlib.Core.List.{List, [], _∷_, map}
 use Prim.Native.Nat.{ℕ, _+_, _*_}
 use lib.Dec.{leb, eqb}
 use lib.ListN.{length, getD, take, drop}
-use Rattle.params.specs.Params.{mostRows, paramsOf}
+use Rattle.bounds.specs.Bounds.{mostRows, mostBytes, mostOps}
+use Rattle.params.specs.Params.{paramsOf}
 use Rattle.params.specs.declared.Sizes.{Sizes}
 use Rattle.params.specs.declared.Parameters.{Parameters}
 use Rattle.params.specs.declared.Parameters.the-variants.{Found, BadCount as NoEntry}
-use Rattle.oplist.specs.Check.{mostOps}
 use Rattle.oplist.specs.Word.{packed}
-use Rattle.slab.specs.Replay.{mostBytes}
 use Rattle.algebra.specs.Flat.{acts}
 use Rattle.phases.specs.System.{Shape, combined}
 use Rattle.phases.specs.Run.{Answer as Told, answer, defined}
@@ -130,16 +129,16 @@ bitwise (x ∷ xs) = leb x 1 && bitwise xs
 unfoldable pub entered : (l s h : ℕ) → List ℕ → Bool
 entered l s h bits = bitwise (take (s * l) bits) && bitwise (drop ((s + h) * l) bits)
 
--- order and vector hold l entries, the working slices their needs
-unfoldable pub roomy : (l : ℕ) → Rooms → (order vector work scratch columns rows ones degrees singles labels sizes : ℕ) → Bool
-roomy l r order vector work scratch columns rows ones degrees singles labels sizes =
-    leb l order && (leb l vector && (leb (r .work) work && (leb (r .scratch) scratch && (leb (r .columns) columns && (leb (r .rows) rows
+-- order, vector and the working slices hold their needs
+unfoldable pub roomy : Rooms → (order vector work scratch columns rows ones degrees singles labels sizes : ℕ) → Bool
+roomy r order vector work scratch columns rows ones degrees singles labels sizes =
+    leb (r .order) order && (leb (r .vector) vector && (leb (r .work) work && (leb (r .scratch) scratch && (leb (r .columns) columns && (leb (r .rows) rows
     && (leb (r .ones) ones && (leb (r .degrees) degrees && (leb (r .singles) singles && (leb (r .labels) labels && leb (r .sizes) sizes)))))))))
 
 abbrev pub roomyFor : (l m : ℕ) → Buffers → Bool
 roomyFor l m b =
     let w : Working = b .rooms in
-    roomy l (roomsOf m l) (length (b .order)) (length (b .vector)) (length (w .work)) (length (w .scratch)) (length (w .columns)) (length (w .rows))
+    roomy (roomsOf m l) (length (b .order)) (length (b .vector)) (length (w .work)) (length (w .scratch)) (length (w .columns)) (length (w .rows))
     (length (w .ones)) (length (w .degrees)) (length (w .singles)) (length (w .labels)) (length (w .sizes))
 
 -- the additions and multiplications of the phase at place k

@@ -2,6 +2,7 @@
 ghost use mathlib.Core.Path.{_≡_};
 ghost use Prim.Native.Nat.{_+_, _*_, _≤_};
 ghost use lib.ListN.{length};
+ghost use Rattle.bounds.specs.Bounds.{mostRows};
 ghost use Rattle.call.specs.Call.{shaped, bitwise, entered, roomy};
 use answers::Rooms;
 
@@ -16,22 +17,22 @@ pub fn is_shaped(
     octets: usize,
     slab: usize,
 ) -> bool
-    requires { ⌜ (l ≤ 256) × (h ≤ 256) ⌝ }
+    requires { ⌜ (l ≤ mostRows) × (h ≤ mostRows) ⌝ }
     ensures { λ r. ⌜ r ≡ shaped l h m t list bits octets slab ⌝ }
 {
     if m < l {
         return false;
     }
-    if params::MOST_ROWS < m {
+    if bounds::MOST_ROWS < m {
         return false;
     }
     if t < 1 {
         return false;
     }
-    if slab::MOST_BYTES < t {
+    if bounds::MOST_BYTES < t {
         return false;
     }
-    if oplist::MOST_OPS < list {
+    if bounds::MOST_OPS < list {
         return false;
     }
     if bits != m * l {
@@ -59,7 +60,7 @@ fn is_binary(bits: &[u8]) -> bool
 
 // Whether every entry of the m rows outside the octet rows is 0 or 1.
 pub fn is_entered(bits: &[u8], m: usize, l: usize, s: usize, h: usize) -> bool
-    requires { ⌜ (length (now bits) ≡ m * l) × (s + h ≤ m) × (m ≤ 256) × (l ≤ 256) ⌝ }
+    requires { ⌜ (length (now bits) ≡ m * l) × (s + h ≤ m) × (m ≤ mostRows) × (l ≤ mostRows) ⌝ }
     ensures { λ r. ⌜ r ≡ entered l s h (now (bits .entry)) ⌝ }
 {
     let a = s * l;
@@ -71,9 +72,8 @@ pub fn is_entered(bits: &[u8], m: usize, l: usize, s: usize, h: usize) -> bool
     is_binary(&bits[b..e])
 }
 
-// Whether order and vector hold l entries, and the working slices their needs.
+// Whether order, vector and the working slices hold their needs.
 pub fn has_room(
-    l: usize,
     r: Rooms,
     order: usize,
     vector: usize,
@@ -87,12 +87,12 @@ pub fn has_room(
     labels: usize,
     sizes: usize,
 ) -> bool
-    ensures { λ x. ⌜ x ≡ roomy l r order vector work scratch columns rows ones degrees singles labels sizes ⌝ }
+    ensures { λ x. ⌜ x ≡ roomy r order vector work scratch columns rows ones degrees singles labels sizes ⌝ }
 {
-    if order < l {
+    if order < r.order {
         return false;
     }
-    if vector < l {
+    if vector < r.vector {
         return false;
     }
     if work < r.work {

@@ -5,6 +5,7 @@ ghost use lib.ListN.{length};
 ghost use Rattle.call.specs.Over.{blank, keep};
 ghost use Rattle.call.specs.Call.{working, wiped};
 
+// All bytes become zeros.
 pub fn bytes(s: &mut [u8])
     ensures { λ _. ⌜ now (s .exit) ≡ blank (now (s .entry)) ⌝ }
 {
@@ -15,6 +16,7 @@ pub fn bytes(s: &mut [u8])
     }
 }
 
+// All numbers become zeros.
 pub fn numbers(s: &mut [usize])
     ensures { λ _. ⌜ now (s .exit) ≡ blank (now (s .entry)) ⌝ }
 {

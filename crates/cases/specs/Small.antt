@@ -7,23 +7,36 @@
 --   usual      the order that Q gets: rows 0..6 for columns 0..6, rows 17..26 for columns 7..16, rows 7..16 for columns 17..26
 --   block, block-octets   ones in columns 1..17 in turn, octet row 0 a one in column 0, octet row j in column 17 + j:
 --              after 16 steps no row has a one in V
+--   ten-is     the table's sizes for K = 10 give that shape
+--   Lent       buffers for 27 rows of t bytes that pass the tests
+--   Fits       a binary matrix and octet rows of 27 columns, the binary entries 0 or 1
+--   call-ten   a call with K = 10 and 27 rows in such buffers is the defined run of that shape
+--   Gets       in such buffers, whose list room is as said, a call with a binary matrix and octet rows ends with an answer
+--   room-any, room-one, room-none   a list room of any size, for an operation at least, for none
 --   solve      the defined answer to a binary matrix and octet rows, plain or wide, with room for so many operations
 --   stored     the bytes of a stored list with one operation, MulAssign 7 by 142
---   Small, small   what they get, some with an entry changed, some without room; two refused calls; facts of octets; the stored list, written and read
+--   Small, small   what calls with them get, some with an entry changed, some without room; two refused calls; facts of octets; the stored list,
+--              written and read
 -- Assumes nothing.
-use mathlib.Core.Path.{_≡_, refl, ap}
+use mathlib.Core.Path.{_≡_, refl, sym, ap, _∙_}
 use mathlib.Core.Bool.{Bool, true, false, cond}
 use mathlib.Core.List.{List, [], _∷_, _++_, map}
-use Prim.Native.Nat.{ℕ, _+_, _*_}
-use lib.Dec.{eqb}
+use Prim.Native.Nat.{ℕ, _+_, _*_, _≤_}
+use native.Mathlib.Omega.{arith}
+use borrow.Author.Tests.{le-leb, le-ltb, lt-ltb, eq-eqb}
+use lib.Dec.{eqb, ltb}
 use lib.ListN.{length, set, replicate}
 use Rattle.loops.specs.Loop.{forTo, up}
 use Rattle.loops.specs.Way.{forWay}
 use Rattle.octet.specs.Octet.{add, times, product, rest, mul, squares, inverse}
 use Rattle.oplist.specs.Count.{adds, muls}
 use Rattle.oplist.specs.declared.Op.the-variants.{AddAssign, MulAssign, FMA}
+use Rattle.bounds.specs.Bounds.{mostBytes, mostOps}
 use Rattle.oplist.specs.Check.{shapeFine, opFine, listFine, orderFine}
 use Rattle.oplist.specs.Word.{packed, meaning}
+use Rattle.params.specs.Params.{paramsOf}
+use Rattle.params.specs.declared.Sizes.{Sizes}
+use Rattle.params.specs.declared.Parameters.the-variants.{Found}
 use Rattle.params.specs.Answers.{at-zero}
 use Rattle.params.specs.Examples as params
 use Rattle.stored.specs.Bytes.{padded}
@@ -33,8 +46,8 @@ use Rattle.stored.specs.declared.Reading.the-variants.{Kept}
 use Rattle.phases.specs.System.{Shape, range, combined}
 use Rattle.phases.specs.One.{phase-one}
 use Rattle.answers.specs.declared.Answer.the-variants.{BadCount, BadShape}
-use Rattle.call.specs.Call.{Octets, Buffers, outcome, shaped, checked, callOf}
-use Rattle.phases.specs.Run.{Run, solved, no-pivot, singular, defined, answer, Answer, Solved, ListFull, NoPivot, Singular, no-counts}
+use Rattle.call.specs.Call.{Octets, Buffers, Outcome, outcome, shaped, bitwise, entered, roomyFor, shapeOf, told, ended, checked, callOf}
+use Rattle.phases.specs.Run.{Run, whole, solved, no-pivot, singular, defined, ending, answer, Answer, Solved, ListFull, NoPivot, Singular, no-counts}
 
 abbrev pub ten : Shape
 ten = record { m = 27; n = 27; s = 7; h = 10; w = 17 }
@@ -61,6 +74,26 @@ Q = flat (range 0 7) ++ zeros ++ flat (range 7 10)
 abbrev pub Q-octets : List ℕ
 Q-octets = flat (range 17 10)
 
+pub record Lent (t : ℕ) (b : Buffers) : Type 0 where
+  pub some-bytes : 1 ≤ t
+  pub few-bytes : t ≤ mostBytes
+  pub room : length (b .list) ≤ mostOps
+  pub size : length (b .slab) ≡ 27 * t
+  pub rooms : roomyFor 27 27 b ≡ true
+
+abbrev pub Gets : (ℕ → Type 0) → List ℕ → List ℕ → Answer → Type 0
+Gets Room bits octs a = (t : ℕ) (b : Buffers) → Lent t b → Room (length (b .list)) → callOf 10 27 t bits (Octets.given octs) b ≡ ended t b a
+
+-- any list room, one for an operation or more, none
+abbrev pub room-any : ℕ → Type 0
+room-any n = 0 ≤ n
+
+abbrev pub room-one : ℕ → Type 0
+room-one n = 1 ≤ n
+
+abbrev pub room-none : ℕ → Type 0
+room-none n = n ≡ 0
+
 -- the matrix of a binary matrix and octet rows, and the answer with room for so many operations
 abbrev pub solve : ℕ → Bool → List ℕ → List ℕ → Answer
 solve room wide bits octs = answer room (defined ten (combined ten bits octs) wide)
@@ -77,24 +110,25 @@ block-octets = flat (0 ∷ range 18 9)
 abbrev pub stored : List ℕ
 stored = 0 ∷ 0 ∷ 0 ∷ 14 ∷ 1 ∷ 0 ∷ 27 ∷ 0 ∷ 27 ∷ 0 ∷ 0 ∷ 0 ∷ 1 ∷ 2 ∷ 7 ∷ 0 ∷ 142 ∷ 0 ∷ []
 
--- what each system gets; with no room, what was recorded does not fit; a call with no symbols, or with too few rows, is refused and changes nothing
+-- what a call with each system gets; with no room, what was recorded does not fit; a call with no symbols, or with too few rows, is refused and changes nothing
 pub record Small : Type 0 where
-  pub empty-list : solve 1000 false Q Q-octets ≡ Solved [] usual no-counts no-counts
-  pub one-scaling : solve 1000 false Q (with 0 17 2 Q-octets) ≡ Solved (MulAssign 7 142 ∷ []) usual no-counts (0 ∷ 1 ∷ 0 ∷ 0 ∷ 0 ∷ [])
+  pub ten-is : (g : Sizes) → paramsOf 10 ≡ Found g → shapeOf g (g .h) 27 ≡ ten
+  pub empty-list : Gets room-any Q Q-octets (Solved [] usual no-counts no-counts)
+  pub one-scaling : Gets room-one Q (with 0 17 2 Q-octets) (Solved (MulAssign 7 142 ∷ []) usual no-counts (0 ∷ 1 ∷ 0 ∷ 0 ∷ 0 ∷ []))
   pub scaling-first : defined ten (combined ten Q (with 0 17 2 Q-octets)) false .one ≡ []
-  pub one-addition : solve 1000 false (with 0 17 1 Q) Q-octets ≡ Solved (AddAssign 0 7 ∷ []) usual (0 ∷ 0 ∷ 0 ∷ 1 ∷ 0 ∷ []) no-counts
-  pub one-fma : solve 1000 false Q (with 0 0 3 Q-octets) ≡ Solved (FMA 7 0 3 ∷ []) usual (1 ∷ 0 ∷ 0 ∷ 0 ∷ 0 ∷ []) (1 ∷ 0 ∷ 0 ∷ 0 ∷ 0 ∷ [])
-  pub one-singular : solve 1000 false Q (with 0 17 0 Q-octets) ≡ Singular (unit 1 17)
-  pub one-refused : solve 1000 false (flat (range 0 7) ++ zeros ++ flat (range 17 10)) (flat (range 7 10)) ≡ NoPivot
-  pub no-room-scaling : solve 0 false Q (with 0 17 2 Q-octets) ≡ ListFull
-  pub no-room-addition : solve 0 false (with 0 17 1 Q) Q-octets ≡ ListFull
-  pub no-room-fma : solve 0 false Q (with 0 0 3 Q-octets) ≡ ListFull
+  pub one-addition : Gets room-one (with 0 17 1 Q) Q-octets (Solved (AddAssign 0 7 ∷ []) usual (0 ∷ 0 ∷ 0 ∷ 1 ∷ 0 ∷ []) no-counts)
+  pub one-fma : Gets room-one Q (with 0 0 3 Q-octets) (Solved (FMA 7 0 3 ∷ []) usual (1 ∷ 0 ∷ 0 ∷ 0 ∷ 0 ∷ []) (1 ∷ 0 ∷ 0 ∷ 0 ∷ 0 ∷ []))
+  pub one-singular : Gets room-any Q (with 0 17 0 Q-octets) (Singular (unit 1 17))
+  pub one-refused : Gets room-any (flat (range 0 7) ++ zeros ++ flat (range 17 10)) (flat (range 7 10)) NoPivot
+  pub no-room-scaling : Gets room-none Q (with 0 17 2 Q-octets) ListFull
+  pub no-room-addition : Gets room-none (with 0 17 1 Q) Q-octets ListFull
+  pub no-room-fma : Gets room-none Q (with 0 0 3 Q-octets) ListFull
   pub no-count : (m t : ℕ) (bits : List ℕ) (o : Octets) (b : Buffers) → callOf 0 m t bits o b ≡ outcome BadCount b
   pub too-few-rows : (t : ℕ) (bits : List ℕ) (o : Octets) (b : Buffers) → callOf 10 26 t bits o b ≡ outcome BadShape b
   pub octet-facts : (mul 2 128 ≡ 29) × (mul 3 3 ≡ 5) × (inverse 2 ≡ 142)
   pub stored-form : formOf 27 27 (MulAssign 7 142 ∷ []) false [] ≡ stored
   pub stored-read : readOf stored (0 ∷ []) [] ≡ got (Kept 27 27 1 false) (packed (MulAssign 7 142) ∷ []) []
-  pub block-refused : solve 1000 false block block-octets ≡ NoPivot
+  pub block-refused : Gets room-any block block-octets NoPivot
   pub block-steps : length (phase-one (combined ten block block-octets) ten .steps) ≡ 16
   pub block-wide : solve 1000 true block block-octets ≡ Solved [] (7 ∷ range 0 7 ++ range 17 10 ++ range 8 9) no-counts no-counts
 
@@ -159,25 +193,57 @@ read-is : readOf stored (0 ∷ []) [] ≡ got (Kept 27 27 1 false) (packed (MulA
 unfolding readOf judged judgedBy formFine unusedFine unusedAt wordsAt padded shapeFine listFine orderFine opFine packed meaning
 read-is = refl
 
+ten-shape : (g : Sizes) → paramsOf 10 ≡ Found g → shapeOf g (g .h) 27 ≡ ten
+ten-shape g e = let z : Found g ≡ Found _ = sym e ∙ params.ten in cc
+
+abbrev pub Fits : List ℕ → List ℕ → Type 0
+Fits bits octs = (length bits ≡ 729) × (length octs ≡ 270) × (entered 27 7 10 bits ≡ true)
+
+pub call-ten : (bits octs : List ℕ) → Fits bits octs → (t : ℕ) (b : Buffers) → Lent t b
+    → callOf 10 27 t bits (Octets.given octs) b ≡ ended t b (told ten bits octs (length (b .list)))
+unfolding callOf checked shaped
+call-ten bits octs f t b h =
+    rw (
+      params.ten,
+      le-leb 1 t (h .some-bytes),
+      le-leb t mostBytes (h .few-bytes),
+      le-leb (length (b .list)) mostOps (h .room),
+      eq-eqb (length bits) 729 (f .0),
+      eq-eqb (length octs) 270 (f .1),
+      eq-eqb (length (b .slab)) (27 * t) (h .size),
+      f .2,
+      h .rooms,
+    )
+
+-- a run that is known, with or without room for its list
+module _ (bits octs : List ℕ) (f : Fits bits octs) {r : Run} (e : run-of bits octs ≡ r) where
+  gets : (q : Bool) (Room : ℕ → Type 0) → ((n : ℕ) → Room n → ltb n (length (whole r)) ≡ q) → Gets Room bits octs (cond q ListFull (ending r (r .end)))
+  unfolding told
+  gets q Room g t b h k =
+      call-ten bits octs f t b h
+      ∙ ap (λ (x : Run). ended t b (answer (length (b .list)) x)) e
+      ∙ ap (λ (c : Bool). ended t b (cond c ListFull (ending r (r .end)))) (g (length (b .list)) k)
+
 pub small : Small
-unfolding adds muls
+unfolding adds muls entered bitwise
 small = record {
-  empty-list = ap (answer 1000) run-plain;
-  one-scaling = ap (answer 1000) run-scaling;
+  ten-is = ten-shape;
+  empty-list = gets Q Q-octets (refl, refl, refl) run-plain false room-any (λ n h. le-ltb n 0 h);
+  one-scaling = gets Q (with 0 17 2 Q-octets) (refl, refl, refl) run-scaling false room-one (λ n h. le-ltb n 1 h);
   scaling-first = ap (λ (r : Run). r .one) run-scaling;
-  one-addition = ap (answer 1000) run-addition;
-  one-fma = ap (answer 1000) run-fma;
-  one-singular = ap (answer 1000) run-singular;
-  one-refused = ap (answer 1000) run-refused;
-  no-room-scaling = ap (answer 0) run-scaling;
-  no-room-addition = ap (answer 0) run-addition;
-  no-room-fma = ap (answer 0) run-fma;
+  one-addition = gets (with 0 17 1 Q) Q-octets (refl, refl, refl) run-addition false room-one (λ n h. le-ltb n 1 h);
+  one-fma = gets Q (with 0 0 3 Q-octets) (refl, refl, refl) run-fma false room-one (λ n h. le-ltb n 1 h);
+  one-singular = gets Q (with 0 17 0 Q-octets) (refl, refl, refl) run-singular false room-any (λ n h. le-ltb n 0 h);
+  one-refused = gets (flat (range 0 7) ++ zeros ++ flat (range 17 10)) (flat (range 7 10)) (refl, refl, refl) run-refused false room-any (λ n h. le-ltb n 0 h);
+  no-room-scaling = gets Q (with 0 17 2 Q-octets) (refl, refl, refl) run-scaling true room-none (λ n h. lt-ltb n 1 (omega arith));
+  no-room-addition = gets (with 0 17 1 Q) Q-octets (refl, refl, refl) run-addition true room-none (λ n h. lt-ltb n 1 (omega arith));
+  no-room-fma = gets Q (with 0 0 3 Q-octets) (refl, refl, refl) run-fma true room-none (λ n h. lt-ltb n 1 (omega arith));
   no-count = no-symbols;
   too-few-rows = few-rows;
   octet-facts = facts;
   stored-form = form-is;
   stored-read = read-is;
-  block-refused = ap (answer 1000) run-block;
+  block-refused = gets block block-octets (refl, refl, refl) run-block false room-any (λ n h. le-ltb n 0 h);
   block-steps = block-takes;
   block-wide = block-goes-on;
 }

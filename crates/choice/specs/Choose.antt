@@ -5,7 +5,9 @@
 --   decided-one       two outcomes that meet it are equal
 --   at-within, at-past            an entry of a list, if it has one
 --   pair-none, pair-some          the choice at two ones: no node, or a row at it
---   chosen-none, chosen-single, chosen-pair, chosen-more   the choice, by the least number of ones
+--   some-with         some row has as many ones as the least, where that is positive
+--   chosen-none, chosen-empty, chosen-single, chosen-pair, chosen-more   the choice, by the least number of ones
+--   and-left, and-right   two tests at once, of which one fails
 -- Assumes nothing.
 use mathlib.Core.Path.{_≡_, refl, sym, ap, _∙_}
 use mathlib.Core.List.{List}
@@ -14,15 +16,17 @@ use mathlib.Core.Option.{Option, some, none}
 use Prim.Native.Nat.{ℕ, zero, suc, _≤_, _<_}
 use native.Mathlib.Omega.{arith}
 use lib.ListN.{length, getD, drop}
-use lib.Seq.{drop-cons, ext-getD}
+use lib.Seq.{drop-cons}
 use lib.Dec.{eqb}
 use borrow.Author.Tests.{eq-eqb, ne-eqb}
-use Rattle.rule.specs.Lists.{filter, head, headLeast, leastPos}
+use Rattle.rule.specs.Lists.{In, filter, head, headLeast, leastPos}
+use Rattle.rule.specs.Sets.{leastPos-at}
 use Rattle.rule.specs.Permitted.{count}
 use Rattle.rule.specs.Rule.{size, node, atNode, chooseAt, choose}
-use Rattle.grid.specs.Grid.{bit, Under, Rows, Figures, gone}
-use Rattle.columns.specs.First.{firstAt, head-filter}
-use Rattle.choice.specs.Told.{told, Tells, filter-told, filter-both}
+use Rattle.grid.specs.Grid.{bit, Under, Rows, Figures, figures-one, gone}
+use Rattle.columns.specs.First.{firstAt, head-filter, first-in}
+use Rattle.figures.specs.Told.{told, Tells, filter-told, filter-both}
+use Rattle.figures.specs.Least.{light-empty}
 use Rattle.choice.specs.Sizes.{Labelled, Found}
 use Rattle.choice.specs.declared.Choice.{Choice}
 use Rattle.choice.specs.declared.Choice.the-variants.{Row, Nothing}
@@ -59,8 +63,7 @@ row-one Nothing (Row y) e = let z : _≡_ {A = ℕ} 0 1 = cc in absurd (omega ar
 row-one Nothing Nothing e = refl
 
 room-one : (two : Bool) (lab : ℕ → ℕ) (v before after after′ : List ℕ) → Counted two lab v before after → Counted two lab v before after′ → after ≡ after′
-room-one true lab v before after after′ f g =
-    ext-getD 0 after after′ (f .long ∙ sym (g .long)) (λ a h. let i : a < length before = omega (arith, f .long) in f .each a i ∙ sym (g .each a i))
+room-one true lab v before after after′ f g = figures-one f g
 room-one false lab v before after after′ f g = f ∙ sym g
 
 -- two outcomes that meet the statement are one
@@ -108,6 +111,14 @@ module _ (row : ℕ → ℕ → Bool) (deg : ℕ → ℕ) (v e s : List ℕ) (la
   pub chosen-none : (room : List ℕ) → r ≡ 0 → Decided (choose row deg v e s lab n) (eqb r 2) lab v Nothing room room
   chosen-none room q = record { row = at-least 0 q refl; room = untouched room (λ d. omega arith) }
 
+  pub some-with : (r ≡ 0 → ⊥) → {ones : List ℕ} → Tells (count row v) e ones → firstAt (λ y. eqb (told ones y) r) e < length e
+  some-with d {ones} t =
+      let a : (x : ℕ) × In x e × (count row v x ≡ leastPos (count row v) e) = leastPos-at (count row v) e (omega (arith, least)) in
+      first-in (λ y. eqb (told ones y) r) e (a .0) (a .1) (eq-eqb (told ones (a .0)) r (t .is (a .0) (a .1) ∙ a .2 ∙ sym least))
+
+  pub chosen-empty : (room : List ℕ) → r ≡ 1 → length s ≡ 0 → Decided (choose row deg v e s lab n) (eqb r 2) lab v Nothing room room
+  chosen-empty room q h = record { row = at-least 1 q (light-empty deg s h); room = untouched room (λ d. omega arith) }
+
   pub chosen-single : (room : List ℕ) {c : Choice} → r ≡ 1 → rowOf c ≡ headLeast deg s → Decided (choose row deg v e s lab n) (eqb r 2) lab v c room room
   chosen-single room q p = record { row = at-least 1 q p; room = untouched room (λ d. omega arith) }
 
@@ -124,3 +135,10 @@ module _ (row : ℕ → ℕ → Bool) (deg : ℕ → ℕ) (v e s : List ℕ) (la
       go (suc zero) q w = absurd (b q)
       go (suc (suc zero)) q w = absurd (d q)
       go (suc (suc (suc k))) q w = at-least (suc (suc (suc k))) q (w ∙ ap (λ (i : ℕ). headLeast deg (filter (λ y. eqb (count row v y) i) e)) q)
+
+pub and-left : (a b : Bool) → a ≡ false → (a && b) ≡ false
+and-left a b e = rw e
+
+pub and-right : (a b : Bool) → b ≡ false → (a && b) ≡ false
+and-right true b f = f
+and-right false b f = refl

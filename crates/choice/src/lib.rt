@@ -1,15 +1,15 @@
 // Phase one's choice of a row, with every tie, over lent lists of rows and columns and the figures that are kept of them.
 ghost use mathlib.Core.Path.{_≡_};
 ghost use mathlib.Core.Bool.{true, _&&_};
-ghost use Prim.Native.Nat.{_+_, _≤_, _<_};
+ghost use Prim.Native.Nat.{_≤_, _<_};
 ghost use lib.ListN.{length, drop};
 ghost use lib.Dec.{eqb};
-ghost use Rattle.rule.specs.Lists.{filter, head, headLeast, leastPos, lesser as lesserOf};
+ghost use Rattle.rule.specs.Lists.{head, leastPos};
 ghost use Rattle.rule.specs.Permitted.{count};
 ghost use Rattle.rule.specs.Rule.{size, node, atNode, choose as rowRule};
 ghost use Rattle.grid.specs.Grid.{bit, Under, Rows, Figures};
 ghost use Rattle.columns.specs.First.{firstAt};
-ghost use Rattle.choice.specs.Told.{told};
+ghost use Rattle.figures.specs.Told.{told};
 ghost use Rattle.choice.specs.Sizes.{Labelled, Found};
 ghost use Rattle.choice.specs.Choose.{rowOf, Ready, Decided};
 
@@ -17,38 +17,6 @@ ghost use Rattle.choice.specs.Choose.{rowOf, Ready, Decided};
 pub enum Choice {
     Row(usize),
     Nothing,
-}
-
-// The lesser of two numbers, where 0 is none.
-fn lesser(a: usize, b: usize) -> usize
-    ensures { λ r. ⌜ r ≡ lesserOf a b ⌝ }
-{
-    if a == 0 {
-        return b;
-    }
-    if b == 0 {
-        return a;
-    }
-    if b < a {
-        return b;
-    }
-    a
-}
-
-// The least positive number of ones that a row of e has; 0 where there is none.
-pub fn least_positive(e: &[usize], ones: &[usize]) -> usize
-    requires { ⌜ Under (length (now ones)) (now e) ⌝ }
-    ensures { λ r. ⌜ r ≡ leastPos (told (now (ones .entry))) (now (e .entry)) ⌝ }
-{
-    let mut r = 0;
-    let mut k = 0;
-    while k < e.len() {
-        let y = e[k];
-        let c = ones[y];
-        r = lesser(r, c);
-        k += 1;
-    }
-    r
 }
 
 // Entry k of e, if it has one.
@@ -59,66 +27,6 @@ fn choice_at(e: &[usize], k: usize) -> Choice
         return Choice::Row(e[k]);
     }
     Choice::Nothing
-}
-
-// The first row of s of least degree.
-fn least_degree(s: &[usize], deg: &[usize]) -> Choice
-    requires { ⌜ Under (length (now deg)) (now s) ⌝ }
-    ensures { λ r. ⌜ rowOf r ≡ headLeast (told (now (deg .entry))) (now (s .entry)) ⌝ }
-{
-    if s.len() == 0 {
-        return Choice::Nothing;
-    }
-    let mut b = s[0];
-    let mut k = 1;
-    while k < s.len() {
-        let y = s[k];
-        if deg[y] < deg[b] {
-            b = y;
-        }
-        k += 1;
-    }
-    Choice::Row(b)
-}
-
-// The place of the first row of e with r ones, or the length.
-fn first_with(e: &[usize], ones: &[usize], r: usize) -> usize
-    requires { ⌜ Under (length (now ones)) (now e) ⌝ }
-    ensures { λ k. ⌜ k ≡ firstAt (λ y. eqb (told (now (ones .entry)) y) r) (now (e .entry)) ⌝ }
-{
-    let mut k = 0;
-    while k < e.len() {
-        let y = e[k];
-        if ones[y] == r {
-            return k;
-        }
-        k += 1;
-    }
-    k
-}
-
-// The first row of least degree among those of e with r ones.
-fn least_degree_of(e: &[usize], ones: &[usize], deg: &[usize], r: usize) -> Choice
-    requires { ⌜ Under (length (now ones)) (now e) ⌝ }
-    requires { ⌜ Under (length (now deg)) (now e) ⌝ }
-    ensures { λ c. ⌜ rowOf c ≡ headLeast (told (now (deg .entry))) (filter (λ y. eqb (told (now (ones .entry)) y) r) (now (e .entry))) ⌝ }
-{
-    let i = first_with(e, ones, r);
-    if e.len() <= i {
-        return Choice::Nothing;
-    }
-    let mut b = e[i];
-    let mut k = i + 1;
-    while k < e.len() {
-        let x = e[k];
-        if ones[x] == r {
-            if deg[x] < deg[b] {
-                b = x;
-            }
-        }
-        k += 1;
-    }
-    Choice::Row(b)
 }
 
 // How many columns of v have each label.
@@ -184,7 +92,7 @@ fn at_node(bits: &[u8], l: usize, q: usize, e: &[usize], ones: &[usize]) -> usiz
     let mut k = 0;
     while k < e.len() {
         let y = e[k];
-        if ones[y] == 2 {
+        if figures::ones_of(ones, y) == 2 {
             if grid::has(bits, l, y, q) {
                 return k;
             }
@@ -242,10 +150,13 @@ pub fn choose(
         return Choice::Nothing;
     }
     if r == 1 {
-        return least_degree(s, deg);
+        if s.len() == 0 {
+            return Choice::Nothing;
+        }
+        return Choice::Row(figures::least_degree(s, deg));
     }
     if r == 2 {
         return choose_pair(bits, l, v, e, ones, labels, n, sizes);
     }
-    least_degree_of(e, ones, deg, r)
+    Choice::Row(figures::least_degree_of(e, ones, deg, r))
 }

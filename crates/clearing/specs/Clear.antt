@@ -2,6 +2,7 @@
 --   binary-at, octet-at   the entry of row y in column q, of a binary matrix and of octet rows from row s on
 --   Binary           rows with a 0 or a 1 in a column
 --   Listed           a journal is another with a list of operations more
+--   listed-one       two outcomes that meet it are equal
 --   listed-none, listed-then   no operation; one list after another
 --   Clearing         a loop over the rows ys, of which k are done
 --   clear-start, clear-none, clear-next, clear-one, clear-end   it begins, passes a zero, records a multiple, or the row itself, is over
@@ -52,6 +53,9 @@ pub record Listed (g : Book) (os : List Op) (h : Book) : Type 0 where
   pub is : h ≡ notes note g os
   pub fair : Fair h
   pub room : length (h .words) ≡ length (g .words)
+
+pub listed-one : {g h k : Book} {os : List Op} → Listed g os h → Listed g os k → h ≡ k
+listed-one p q = p .is ∙ sym (q .is)
 
 pub listed-none : {g : Book} → Fair g → Listed g [] g
 unfolding notes
@@ -122,30 +126,30 @@ pub octet-within : {h l n j q : ℕ} → h * l ≤ n → j < h → q < l → j *
 octet-within {h} {l} {n} {j} {q} f i k = omega (arith, row-within l h j i)
 
 -- the loop over the octet rows: row s + j is octet row j
-octet-here : (l s : ℕ) (octs : List ℕ) (q h j : ℕ) → j < h → octet-at l s octs q (getD (range s h) j 0) ≡ getD octs (j * l + q) 0
+octet-here : (l s : ℕ) (octets : List ℕ) (q h j : ℕ) → j < h → octet-at l s octets q (getD (range s h) j 0) ≡ getD octets (j * l + q) 0
 unfolding octet-at
-octet-here l s octs q h j i =
+octet-here l s octets q h j i =
     let e : getD (range s h) j 0 - s ≡ j = omega (arith, getD-range s h j i) in
-    ap (λ (k : ℕ). getD octs (k * l + q) 0) e
+    ap (λ (k : ℕ). getD octets (k * l + q) 0) e
 
-pub record Multiples (l s : ℕ) (octs : List ℕ) (q x h : ℕ) (g₀ : Book) (j : ℕ) (g : Book) : Type 0 where
-  pub inv : Clearing (octet-at l s octs q) x (range s h) g₀ j g
+pub record Multiples (l s : ℕ) (octets : List ℕ) (q x h : ℕ) (g₀ : Book) (j : ℕ) (g : Book) : Type 0 where
+  pub inv : Clearing (octet-at l s octets q) x (range s h) g₀ j g
 
-pub octet-start : {l s q x h : ℕ} {octs : List ℕ} {g : Book} → Fair g → Multiples l s octs q x h g 0 g
+pub octet-start : {l s q x h : ℕ} {octets : List ℕ} {g : Book} → Fair g → Multiples l s octets q x h g 0 g
 octet-start f = record { inv = clear-start f }
 
-module _ {l s q x h j : ℕ} {octs : List ℕ} {g₀ g : Book} (c : Multiples l s octs q x h g₀ j g) where
-  pub octet-none : j < h → getD octs (j * l + q) 0 ≡ 0 → Multiples l s octs q x h g₀ (j + 1) g
-  octet-none i e = record { inv = clear-none (c .inv) (omega (arith, length-range s h)) (octet-here l s octs q h j i ∙ e) }
+module _ {l s q x h j : ℕ} {octets : List ℕ} {g₀ g : Book} (c : Multiples l s octets q x h g₀ j g) where
+  pub octet-none : j < h → getD octets (j * l + q) 0 ≡ 0 → Multiples l s octets q x h g₀ (j + 1) g
+  octet-none i e = record { inv = clear-none (c .inv) (omega (arith, length-range s h)) (octet-here l s octets q h j i ∙ e) }
 
-  pub octet-next : {g′ : Book} {o : Op} → j < h → (getD octs (j * l + q) 0 ≡ 0 → ⊥) → o ≡ multiple (getD octs (j * l + q) 0) (s + j) x → Noted g o g′
-      → Multiples l s octs q x h g₀ (j + 1) g′
+  pub octet-next : {g′ : Book} {o : Op} → j < h → (getD octets (j * l + q) 0 ≡ 0 → ⊥) → o ≡ multiple (getD octets (j * l + q) 0) (s + j) x → Noted g o g′
+      → Multiples l s octets q x h g₀ (j + 1) g′
   octet-next i n e d = record {
-    inv = clear-next (c .inv) (omega (arith, length-range s h)) (λ z. n (sym (octet-here l s octs q h j i) ∙ z))
-        (e ∙ sym (ap₂ (λ (a b : ℕ). multiple a b x) (octet-here l s octs q h j i) (getD-range s h j i))) d;
+    inv = clear-next (c .inv) (omega (arith, length-range s h)) (λ z. n (sym (octet-here l s octets q h j i) ∙ z))
+        (e ∙ sym (ap₂ (λ (a b : ℕ). multiple a b x) (octet-here l s octets q h j i) (getD-range s h j i))) d;
   }
 
-  pub octet-end : h ≤ j → Listed g₀ (clears (octet-at l s octs q) x (range s h)) g
+  pub octet-end : h ≤ j → Listed g₀ (clears (octet-at l s octets q) x (range s h)) g
   octet-end i = clear-end (c .inv) (omega (arith, length-range s h))
 
 entry-append : (c y x : ℕ) (os ps : List Op) → entry c y x (os ++ ps) ≡ entry c y x os ++ ps

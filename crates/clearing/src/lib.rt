@@ -1,5 +1,4 @@
 // A step of phase one, recorded: the chosen row is added to the rows below it with a nonzero in its column, binary rows first, then octet rows.
-ghost use mathlib.Core.Path.{_≡_};
 ghost use Prim.Native.Nat.{_+_, _*_, _≤_, _<_};
 ghost use lib.ListN.{length};
 ghost use Rattle.phases.specs.System.{range};
@@ -38,7 +37,7 @@ pub fn clear_rows(
 
 // A multiple of row x is added to each of the h octet rows, row s + j being octet row j, with a nonzero in column q.
 pub fn clear_octets(
-    octs: &[u8],
+    octets: &[u8],
     l: usize,
     s: usize,
     h: usize,
@@ -47,15 +46,15 @@ pub fn clear_octets(
     list: &mut [u64],
     t: Tally,
 ) -> Tally
-    requires { ⌜ (h * l ≤ length (now octs)) × (s + h ≤ 65536) × (q < l) × (x < 65536) ⌝ }
+    requires { ⌜ (h * l ≤ length (now octets)) × (s + h ≤ 65536) × (q < l) × (x < 65536) ⌝ }
     requires { ⌜ Fair (book (now list) t) ⌝ }
-    ensures { λ r. ⌜ Listed (book (now (list .entry)) t) (clears (octet-at l s (now (octs .entry)) q) x (range s h)) (book (now (list .exit)) r) ⌝ }
+    ensures { λ r. ⌜ Listed (book (now (list .entry)) t) (clears (octet-at l s (now (octets .entry)) q) x (range s h)) (book (now (list .exit)) r) ⌝ }
 {
     let mut r = t;
     let mut j = 0;
     while j < h {
         let k = j * l + q;
-        let c = octs[k];
+        let c = octets[k];
         if c != 0 {
             let op = oplist::multiple_of(c, s + j, x);
             r = tally::record(list, r, op);

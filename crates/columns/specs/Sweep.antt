@@ -1,6 +1,7 @@
 -- The column rule by places, over V's columns v, of which the first k are the front and the middle; p says whether the chosen row has a one in a column.
 --   laid c            the columns as a step leaves them: the pivot, what is left of V, the others that leave V
 --   Laid              the column rule's outcome
+--   laid-one          two outcomes that meet it are equal
 --   fronted p k v     the row's first one among the first k columns exchanged with the first column
 --   sweptOut p k v    each further one of the middle, from the left, exchanged with the rightmost zero of the last columns
 --   Moved             the outcome of either
@@ -14,7 +15,7 @@
 --   not-true, not-false   a test turned round
 -- Assumes nothing.
 use mathlib.Core.Path.{_≡_, refl, sym, ap, subst, _∙_}
-use mathlib.Core.Logic.{_⊎_, ⊎-elim}
+use mathlib.Core.Logic.{⊎-elim}
 use mathlib.Core.Bool.{Bool, true, false, cond, not}
 use mathlib.Core.List.{List, [], _∷_, _++_}
 use Prim.Native.Nat.{ℕ, zero, suc, _+_, _-_, _<_, _≤_}
@@ -40,6 +41,9 @@ pub record Laid (l : ℕ) (c : Cut) (v w : List ℕ) : Type 0 where
   pub is : w ≡ laid c
   pub under : Under l w
   pub long : length w ≡ length v
+
+pub laid-one : {l : ℕ} {c : Cut} {v w w′ : List ℕ} → Laid l c v w → Laid l c v w′ → w ≡ w′
+laid-one p q = p .is ∙ sym (q .is)
 
 unfoldable pub fronted : (ℕ → Bool) → ℕ → List ℕ → List ℕ
 fronted p zero v = v

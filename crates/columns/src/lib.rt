@@ -1,7 +1,7 @@
 // Lists of rows and of columns by place: a chosen row and a chosen column come to the front.
 ghost use mathlib.Core.Path.{_≡_};
 ghost use mathlib.Core.List.{_∷_};
-ghost use Prim.Native.Nat.{_+_, _*_, _-_, _≤_, _<_};
+ghost use Prim.Native.Nat.{_+_, _*_, _≤_, _<_};
 ghost use lib.ListN.{length};
 ghost use Rattle.rule.specs.Lists.{In};
 ghost use Rattle.rule.specs.Permitted.{count};

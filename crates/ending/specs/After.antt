@@ -17,6 +17,7 @@ use lib.ListN.{length, getD, take, drop, length-append, length-drop}
 use lib.Seq.{getD-drop}
 use Rattle.loops.specs.Out.{Out}
 use Rattle.loops.specs.Way.{go}
+use Rattle.bounds.specs.Bounds.{mostRows}
 use Rattle.oplist.specs.declared.Op.{Op}
 use Rattle.oplist.specs.declared.Op.the-variants.{AddAssign, MulAssign, FMA}
 use Rattle.oplist.specs.Ops.{Each, each-map, each-both}
@@ -68,7 +69,7 @@ once-apart (x ∷ xs) o (suc i) (suc j) h k e = ap suc (once-apart xs (once-tail
 rows-fact : (m : ℕ) (xs : List ℕ) → Once xs → ((y : ℕ) → Member xs y → y < m) → Rows m xs
 rows-fact m xs o b = record { below = λ k h. b (getD xs k 0) (getD-member xs k h); apart = once-apart xs o }
 
-small-op : (m : ℕ) → m ≤ 256 → (o : Op) → Within m o × Scaled o → Small o
+small-op : (m : ℕ) → m ≤ mostRows → (o : Op) → Within m o × Scaled o → Small o
 small-op m k (AddAssign d s) h = let w = h .0 in (omega arith, omega arith)
 small-op m k (MulAssign d c) h = let w = h .0 in (omega arith, omega (arith, h .1))
 small-op m k (FMA d s c) h = let w = h .0 in (omega arith, omega arith, omega (arith, h .1))

@@ -16,6 +16,7 @@ use borrow.Author.Tests.{leb-true}
 use lib.Dec.{leb, ltb}
 use lib.ListN.{length, getD, take, drop}
 use lib.Seq.{getD-take, getD-drop}
+use Rattle.bounds.specs.Bounds.{mostRows}
 use Rattle.oplist.specs.declared.Op.{Op}
 use Rattle.oplist.specs.declared.Op.the-variants.{AddAssign, MulAssign, FMA}
 use Rattle.oplist.specs.Ops.{Each, each-map, each-both}
@@ -62,7 +63,7 @@ fine-op m (AddAssign d s) h = record { within = h .1; apart = h .0 }
 fine-op m (MulAssign d c) h = record { within = h .1; apart = tt }
 fine-op m (FMA d s c) h = record { within = h .1; apart = h .0 }
 
-small-op : (m : ℕ) → m ≤ 256 → (o : Op) → Fine m o × Scaled o → Small o
+small-op : (m : ℕ) → m ≤ mostRows → (o : Op) → Fine m o × Scaled o → Small o
 small-op m k (AddAssign d s) h = let w = h .0 .within in (omega arith, omega arith)
 small-op m k (MulAssign d c) h = let w = h .0 .within in (omega arith, omega (arith, h .1))
 small-op m k (FMA d s c) h = let w = h .0 .within in (omega arith, omega arith, omega (arith, h .1))

@@ -12,6 +12,7 @@ use call::Shape;
 use second::Elimination;
 use tally::Tally;
 
+// What a phase counted, as it is reported.
 fn counts_of(t: Tally) -> Counts
     ensures { λ r. ⌜ r ≡ countsOf (t .adds) (t .muls) ⌝ }
 {
@@ -29,7 +30,7 @@ fn finish(
     octets: &[u8],
     columns: &[usize],
     rows: &[usize],
-    ones: &mut [usize],
+    marks: &mut [usize],
     list: &mut [u64],
     order: &mut [usize],
     one: Tally,
@@ -37,15 +38,15 @@ fn finish(
 ) -> Answer
     requires { ⌜ Posed z (now bits) (now octets) ⌝ }
     requires { ⌜ Reached z (now bits) (now octets) i (now columns) (now rows) (now list) one two ⌝ }
-    requires { ⌜ Placed z (now columns) (now rows) (now ones) (now order) ⌝ }
+    requires { ⌜ Placed z (now columns) (now rows) (now marks) (now order) ⌝ }
     ensures { λ r. ⌜ Ending (told (asShape z) (now (bits .entry)) (now (octets .entry)) (length (now (list .entry)))) r (now (list .exit)) (now (order .entry)) (now (order .exit)) ⌝ }
 {
     let l = z.l;
     let n = one.used;
-    rest::mark(ones, &rows[0..i]);
-    let three = rest::phase_three(list, ones, n, two);
+    rest::mark(marks, &rows[0..i]);
+    let three = rest::phase_three(list, marks, n, two);
     let four = rest::phase_four(bits, l, i, columns, rows, list, three);
-    let five = rest::phase_five(list, ones, n, four);
+    let five = rest::phase_five(list, marks, n, four);
     let used = five.used;
     if list.len() < used {
         return Answer::ListFull;
@@ -71,7 +72,7 @@ pub fn go_on(
     rows: &mut [usize],
     work: &mut [u8],
     scratch: &mut [u8],
-    ones: &mut [usize],
+    marks: &mut [usize],
     list: &mut [u64],
     order: &mut [usize],
     vector: &mut [u8],
@@ -79,7 +80,7 @@ pub fn go_on(
 ) -> Answer
     requires { ⌜ Posed z (now bits) (now octets) ⌝ }
     requires { ⌜ First z (now bits) (now octets) i (now columns) (now rows) (now list) one ⌝ }
-    requires { ⌜ Going z (now columns) (now rows) (now work) (now scratch) (now ones) (now list) (now order) (now vector) one ⌝ }
+    requires { ⌜ Going z (now columns) (now rows) (now work) (now scratch) (now marks) (now list) (now order) (now vector) one ⌝ }
     ensures { λ r. ⌜ Ran (told (asShape z) (now (bits .entry)) (now (octets .entry)) (length (now (list .entry)))) r (now (list .exit)) (now (order .entry)) (now (vector .entry)) (now (order .exit)) (now (vector .exit)) ⌝ }
 {
     let m = z.m;
@@ -108,7 +109,7 @@ pub fn go_on(
             octets,
             columns,
             rows,
-            ones,
+            marks,
             list,
             order,
             one,

@@ -15,7 +15,7 @@ use Rattle.phases.specs.Matrix.{length-range}
 use Rattle.phases.specs.One.{Phase, degree, begin, step}
 use Rattle.phases.specs.Walk.{begin-walked}
 use Rattle.grid.specs.Grid.{bit}
-use Rattle.choice.specs.Told.{told}
+use Rattle.figures.specs.Told.{told}
 use Rattle.opening.specs.Opened.{Opens, Opened, opened-figure, begins}
 use Rattle.stepping.specs.Stands.{plain, Given, Stands, Standing}
 

@@ -3,17 +3,18 @@
 --   Looping        after i steps the slices hold the definition's phase, and the list room its list
 --   loop-start, loop-next   it begins before the first step, makes a step
 --   step-clear     after a step, what recording its additions asks is there
---   Ended          at the end
+--   Ended          at the end of a phase the slices hold its columns and rows by place, and the list room its list
 --   ended          where no row can be chosen, phase one is at its end
 --   spent          where V has no column left, no row can be chosen
 --   ended-none     the end, after a turn that found no row
---   ended-spent    the end, where V has no column left: the steps and the inactive columns are then all columns
---   Outcome        what phase one's answer says
+--   ended-spent    the end, where V has no column left
+--   Outcome        what phase one's answer says of a phase: after so many steps no column is left in V, or some are
+--   outcome-one    two outcomes are equal: answer, columns, rows and list
 --   turned-none, turned-some   what a turn's answer says: no row could be chosen and the state stands; one could, and the state is a step further
 --   same-cols, same-rows, same-ones, same-singles, same-labels   the slices keep their lengths from one state to another
 --   sum-fits       the steps and the inactive columns together are below 65,536
 -- Assumes nothing.
-use mathlib.Core.Path.{_≡_, refl, sym, ap, subst, _∙_}
+use mathlib.Core.Path.{_≡_, refl, sym, ap, ap₂, subst, _∙_}
 use mathlib.Core.List.{List, [], _∷_, _++_}
 use mathlib.Core.Option.{some, none}
 use Prim.Native.Nat.{ℕ, zero, suc, _+_, _-_, _*_, _≤_, _<_}
@@ -25,6 +26,7 @@ use Rattle.rule.specs.Permitted.{count}
 use Rattle.phases.specs.System.{Shape, combined, octet-rows}
 use Rattle.phases.specs.One.{Step, Phase, rows-of, pivots-of, one, begin, taking, step, phase-one, ops-one}
 use Rattle.phases.specs.Walk.{none-exactly}
+use Rattle.tally.specs.declared.Tally.{Tally}
 use Rattle.tally.specs.Book.{Book, book, Fair}
 use Rattle.clearing.specs.Clear.{Listed, listed-none, listed-then}
 use Rattle.stepping.specs.Stands.{plain, Given, Standing, At, rowAt, cols-long}
@@ -81,29 +83,26 @@ at-stays z bits i (suc k) e =
     ap (At z bits) q ∙ for-next 0 (i + k) (λ _. step (plain (z .n) bits) z) (begin (plain (z .n) bits) z) (omega arith)
     ∙ ap (step (plain (z .n) bits) z) (at-stays z bits i k e) ∙ ap (taking (plain (z .n) bits) z (At z bits i)) e
 
-pub record Ended (z : Shape) (bits octs : List ℕ) (g₀ : Book) (p : Phase) (c d : List ℕ) (i u : ℕ) (g : Book) : Type 0 where
+pub record Ended (z : Shape) (bits octs : List ℕ) (p : Phase) (g₀ : Book) (c d : List ℕ) (g : Book) : Type 0 where
   pub cols : c ≡ pivots-of (p .steps) ++ (p .now .cols ++ p .out)
   pub rows : d ≡ rows-of (p .steps) ++ (p .now .elig ++ octet-rows z)
-  pub i-is : i ≡ length (p .steps)
-  pub u-is : u ≡ length (p .out)
-  pub left : length (p .now .cols) + i + u ≡ z .n
   pub listed : Listed g₀ (ops-one (combined z bits octs) (p .steps)) g
 
 module _ {z : Shape} {bits octs : List ℕ} {g₀ : Book} {n₀ : ℕ} {c d ones s labels sizes : List ℕ} {i u n next : ℕ} {g : Book} (v : Given z bits)
     (h : Looping z bits octs g₀ n₀ c d ones s labels sizes i u n next g) where
-  pub ended : rowAt z bits i ≡ none → Ended z bits octs g₀ (phase-one (plain (z .n) bits) z) c d i u g
-  ended e = subst (λ (p : Phase). Ended z bits octs g₀ p c d i u g) same (record {
-    cols = h .standing .cols;
-    rows = h .standing .rows;
-    i-is = h .standing .i-is;
-    u-is = h .standing .u-is;
-    left = omega (arith, cols-long v (h .standing));
-    listed = h .listed;
-  })
-    where
-      same : At z bits i ≡ phase-one (plain (z .n) bits) z
-      same = let q : i + (z .n - i) ≡ z .n = omega (arith, cols-long v (h .standing)) in
-          sym (ap (At z bits) (sym q) ∙ at-stays z bits i (z .n - i) e)
+  last : rowAt z bits i ≡ none → At z bits i ≡ phase-one (plain (z .n) bits) z
+  last e =
+      let q : i + (z .n - i) ≡ z .n = omega (arith, cols-long v (h .standing)) in
+      sym (ap (At z bits) (sym q) ∙ at-stays z bits i (z .n - i) e)
+
+  pub ended : rowAt z bits i ≡ none → Ended z bits octs (phase-one (plain (z .n) bits) z) g₀ c d g
+  ended e = subst (λ (p : Phase). Ended z bits octs p g₀ c d g) (last e) (record { cols = h .standing .cols; rows = h .standing .rows; listed = h .listed })
+
+  steps-are : rowAt z bits i ≡ none → i ≡ length (phase-one (plain (z .n) bits) z .steps)
+  steps-are e = subst (λ (p : Phase). i ≡ length (p .steps)) (last e) (h .standing .i-is)
+
+  left-are : rowAt z bits i ≡ none → length (phase-one (plain (z .n) bits) z .now .cols) + i + u ≡ z .n
+  left-are e = subst (λ (p : Phase). length (p .now .cols) + i + u ≡ z .n) (last e) (omega (arith, cols-long v (h .standing)))
 
   none-left : (l : List ℕ) (x : ℕ) → length l ≡ 0 → count (one (plain (z .n) bits)) l x ≡ 0
   none-left [] x e = refl
@@ -113,9 +112,24 @@ module _ {z : Shape} {bits octs : List ℕ} {g₀ : Book} {n₀ : ℕ} {c d ones
   spent k = none-exactly z (plain (z .n) bits) (v .fit) (At z bits i) (h .standing .walked) .1
       (λ x m. none-left (At z bits i .now .cols) x (omega (arith, cols-long v (h .standing))))
 
-abbrev pub Outcome : Shape → List ℕ → List ℕ → Book → List ℕ → List ℕ → List ℕ → First → Type 0
-Outcome z bits octs g₀ c d list (Done st t) = Ended z bits octs g₀ (phase-one (plain (z .n) bits) z) c d (st .i) (st .u) (book list t) × (st .i + st .u ≡ z .n)
-Outcome z bits octs g₀ c d list (NoPivot st t) = Ended z bits octs g₀ (phase-one (plain (z .n) bits) z) c d (st .i) (st .u) (book list t) × (st .i + st .u < z .n)
+abbrev pub Outcome : Shape → List ℕ → List ℕ → Phase → Book → List ℕ → List ℕ → List ℕ → First → Type 0
+Outcome z bits octs p g₀ c d list (Done i t) = Ended z bits octs p g₀ c d (book list t) × (i ≡ length (p .steps)) × (length (p .now .cols) ≡ 0)
+Outcome z bits octs p g₀ c d list (NoPivot t) = Ended z bits octs p g₀ c d (book list t) × (0 < length (p .now .cols))
+
+abbrev tally-of : Book → Tally
+tally-of g = record { used = g .used; adds = g .adds; muls = g .muls }
+
+module _ (z : Shape) (bits octs : List ℕ) (p : Phase) (g₀ : Book) {c d c′ d′ : List ℕ} where
+  same-slices : {g g′ : Book} → Ended z bits octs p g₀ c d g → Ended z bits octs p g₀ c′ d′ g′ → (c ≡ c′) × (d ≡ d′) × (g ≡ g′)
+  same-slices a b = (a .cols ∙ sym (b .cols), a .rows ∙ sym (b .rows), a .listed .is ∙ sym (b .listed .is))
+
+  pub outcome-one : {list list′ : List ℕ} (r r′ : First) → Outcome z bits octs p g₀ c d list r → Outcome z bits octs p g₀ c′ d′ list′ r′ → (r ≡ r′) × (c ≡ c′) × (d ≡ d′) × (list ≡ list′)
+  outcome-one (Done i t) (Done j s) a b =
+      let e = same-slices (a .0) (b .0) in
+      (ap₂ Done (a .1 ∙ sym (b .1)) (ap tally-of (e .2)), e .0, e .1, ap (λ (g : Book). g .words) (e .2))
+  outcome-one (NoPivot t) (NoPivot s) a b = let e = same-slices (a .0) (b .0) in (ap NoPivot (ap tally-of (e .2)), e .0, e .1, ap (λ (g : Book). g .words) (e .2))
+  outcome-one (Done i t) (NoPivot s) a b = absurd (omega (arith, a .2, b .1))
+  outcome-one (NoPivot t) (Done i s) a b = absurd (omega (arith, a .1, b .2))
 
 -- a turn's answer, by its case
 pub turned-none : {z : Shape} {bits : List ℕ} (st : State) {c d ones s labels : List ℕ} {r : Made} → r ≡ Nothing → Turned z bits st c d ones s labels r
@@ -150,14 +164,15 @@ same-labels a b = b .labelled ∙ sym (a .labelled)
 module _ {z : Shape} {bits octs : List ℕ} {g₀ : Book} {n₀ : ℕ} {c d ones s labels sizes : List ℕ} {i u n next : ℕ} {g : Book} (v : Given z bits)
     (h : Looping z bits octs g₀ n₀ c d ones s labels sizes i u n next g) where
   -- a turn that found no row
-  pub ended-none : {c′ d′ ones′ s′ labels′ : List ℕ} → (rowAt z bits i ≡ none) × Standing z bits c′ d′ ones′ s′ labels′ i u n next
-      → Ended z bits octs g₀ (phase-one (plain (z .n) bits) z) c′ d′ i u g
-  ended-none {c′} {d′} {ones′} {s′} {labels′} t =
-      let k : Looping z bits octs g₀ n₀ c′ d′ ones′ s′ labels′ sizes i u n next g = record { standing = t .1; listed = h .listed; room = h .room } in
-      ended v k (t .0)
+  pub ended-none : {c′ d′ ones′ s′ labels′ : List ℕ} → (rowAt z bits i ≡ none) × Standing z bits c′ d′ ones′ s′ labels′ i u n next → i + u < z .n
+      → Ended z bits octs (phase-one (plain (z .n) bits) z) g₀ c′ d′ g × (0 < length (phase-one (plain (z .n) bits) z .now .cols))
+  ended-none {c′} {d′} {ones′} {s′} {labels′} t k =
+      let a : Looping z bits octs g₀ n₀ c′ d′ ones′ s′ labels′ sizes i u n next g = record { standing = t .1; listed = h .listed; room = h .room } in
+      (ended v a (t .0), omega (arith, left-are v a (t .0)))
 
-  pub ended-spent : z .n ≤ i + u → Ended z bits octs g₀ (phase-one (plain (z .n) bits) z) c d i u g × (i + u ≡ z .n)
-  ended-spent k = (ended v h (spent v h k), omega (arith, cols-long v (h .standing)))
+  pub ended-spent : z .n ≤ i + u
+      → Ended z bits octs (phase-one (plain (z .n) bits) z) g₀ c d g × (i ≡ length (phase-one (plain (z .n) bits) z .steps)) × (length (phase-one (plain (z .n) bits) z .now .cols) ≡ 0)
+  ended-spent k = let e = spent v h k in (ended v h e, steps-are v h e, omega (arith, left-are v h e))
 
   pub sum-fits : i + u < 65536
   sum-fits = omega (arith, cols-long v (h .standing), v .few, v .narrow)

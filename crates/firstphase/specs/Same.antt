@@ -1,7 +1,7 @@
 -- Phase one reads only the rows that may be chosen: two matrices that agree there make the same choices.
 --   SameOn              two matrices have the same rows, of those in a list
 --   phase-same          phase one over the combined matrix is phase one over the binary one
---   Whole, whole        what phase one's answer says, over the combined matrix
+--   whole               what phase one's answer says of the binary matrix, it says of the combined one
 -- Assumes nothing.
 use mathlib.Core.Path.{_≡_, refl, sym, ap, ap₂, subst, fun-ext, _∙_}
 use mathlib.Core.Logic.{_⊎_, inl, inr, ⊎-elim}
@@ -30,10 +30,9 @@ use Rattle.phases.specs.Fit.{cols-once, rows-once, less?}
 use Rattle.phases.specs.Walk.{Walked, walked, permitted}
 use Rattle.clearing.specs.Clear.{outside}
 use Rattle.stepping.specs.Stands.{plain, Given}
-use Rattle.tally.specs.Book.{Book, book}
+use Rattle.tally.specs.Book.{Book}
 use Rattle.firstphase.specs.declared.First.{First}
-use Rattle.firstphase.specs.declared.First.the-variants.{Done, NoPivot}
-use Rattle.firstphase.specs.Ended.{Ended, Outcome}
+use Rattle.firstphase.specs.Ended.{Outcome}
 
 least-from : (k k′ : ℕ → ℕ) (l : List ℕ) (b : ℕ) → k b ≡ k′ b → ((x : ℕ) → In x l → k x ≡ k′ x) → leastFrom k b l ≡ leastFrom k′ b l
 least-from k k′ [] b hb hl = refl
@@ -217,11 +216,7 @@ module _ (z : Shape) (bits octs : List ℕ) (g : Given z bits) where
   pub phase-same : phase-one A z ≡ phase-one B z
   phase-same = phase-after-same (z .n)
 
--- what phase one's answer says, over the combined matrix
-abbrev pub Whole : Shape → List ℕ → List ℕ → Book → List ℕ → List ℕ → List ℕ → First → Type 0
-Whole z bits octs g₀ c d list (Done st t) = Ended z bits octs g₀ (phase-one (combined z bits octs) z) c d (st .i) (st .u) (book list t) × (st .i + st .u ≡ z .n)
-Whole z bits octs g₀ c d list (NoPivot st t) = Ended z bits octs g₀ (phase-one (combined z bits octs) z) c d (st .i) (st .u) (book list t) × (st .i + st .u < z .n)
-
-pub whole : (z : Shape) (bits octs : List ℕ) (g₀ : Book) (c d list : List ℕ) (r : First) → Given z bits → Outcome z bits octs g₀ c d list r → Whole z bits octs g₀ c d list r
-whole z bits octs g₀ c d list (Done st t) g o = (subst (λ (p : Phase). Ended z bits octs g₀ p c d (st .i) (st .u) (book list t)) (sym (phase-same z bits octs g)) (o .0), o .1)
-whole z bits octs g₀ c d list (NoPivot st t) g o = (subst (λ (p : Phase). Ended z bits octs g₀ p c d (st .i) (st .u) (book list t)) (sym (phase-same z bits octs g)) (o .0), o .1)
+-- so phase one's answer says the same of both
+pub whole : (z : Shape) (bits octs : List ℕ) (g₀ : Book) (c d list : List ℕ) (r : First) → Given z bits → Outcome z bits octs (phase-one (plain (z .n) bits) z) g₀ c d list r
+    → Outcome z bits octs (phase-one (combined z bits octs) z) g₀ c d list r
+whole z bits octs g₀ c d list r g o = subst (λ (p : Phase). Outcome z bits octs p g₀ c d list r) (sym (phase-same z bits octs g)) o

@@ -1,32 +1,32 @@
 // Phase one: the loop of steps, with its list.
 ghost use mathlib.Core.Path.{_≡_};
-ghost use Prim.Native.Nat.{ℕ, _+_, _-_, _*_, _≤_, _<_};
-ghost use lib.ListN.{length, getD};
+ghost use Prim.Native.Nat.{ℕ, _+_, _*_, _≤_};
+ghost use lib.ListN.{length};
 ghost use Rattle.tally.specs.Book.{book, Fair};
 ghost use Rattle.clearing.specs.Clear.{Listed};
 ghost use Rattle.stepping.specs.Turns.{asShape};
-ghost use Rattle.choice.specs.Told.{told};
-ghost use Rattle.phases.specs.One.{degree};
+ghost use Rattle.figures.specs.Told.{told};
+ghost use Rattle.phases.specs.System.{combined};
+ghost use Rattle.phases.specs.One.{degree, phase-one};
 ghost use Rattle.stepping.specs.Stands.{plain, Given, Standing};
 ghost use Rattle.firstphase.specs.Clears.{Clear, stepOps};
 ghost use Rattle.firstphase.specs.Ended.{Outcome};
 ghost use Rattle.firstphase.specs.Begins.{Lent};
-ghost use Rattle.firstphase.specs.Same.{Whole};
 use stepping::Made;
 use stepping::Shape;
 use stepping::State;
 use tally::Tally;
 
-// How phase one ends: V is empty, or no eligible row has a one in it.
+// How phase one ends: after so many steps V is empty, or no eligible row has a one in it.
 pub enum First {
-    Done(State, Tally),
-    NoPivot(State, Tally),
+    Done(usize, Tally),
+    NoPivot(Tally),
 }
 
 // The row at place i, chosen last, is added to the rows below it with a nonzero in its column.
 fn clear_step(
     bits: &[u8],
-    octs: &[u8],
+    octets: &[u8],
     z: Shape,
     i: usize,
     c: &[usize],
@@ -34,9 +34,9 @@ fn clear_step(
     list: &mut [u64],
     t: Tally,
 ) -> Tally
-    requires { ⌜ Clear (asShape z) (now bits) (now octs) i (now c) (now d) ⌝ }
+    requires { ⌜ Clear (asShape z) (now bits) (now octets) i (now c) (now d) ⌝ }
     requires { ⌜ Fair (book (now list) t) ⌝ }
-    ensures { λ r. ⌜ Listed (book (now (list .entry)) t) (stepOps (asShape z) (now (bits .entry)) (now (octs .entry)) i (now (c .entry)) (now (d .entry))) (book (now (list .exit)) r) ⌝ }
+    ensures { λ r. ⌜ Listed (book (now (list .entry)) t) (stepOps (asShape z) (now (bits .entry)) (now (octets .entry)) i (now (c .entry)) (now (d .entry))) (book (now (list .exit)) r) ⌝ }
 {
     let l = z.l;
     let top = z.m - z.h;
@@ -44,13 +44,13 @@ fn clear_step(
     let x = d[i];
     let a = i + 1;
     let first = clearing::clear_rows(bits, l, q, x, &d[a..top], list, t);
-    clearing::clear_octets(octs, l, z.s, z.h, q, x, list, first)
+    clearing::clear_octets(octets, l, z.s, z.h, q, x, list, first)
 }
 
 // Steps are made until V is empty or no row can be chosen.
-pub fn steps(
+fn steps(
     bits: &[u8],
-    octs: &[u8],
+    octets: &[u8],
     z: Shape,
     c: &mut [usize],
     d: &mut [usize],
@@ -66,8 +66,8 @@ pub fn steps(
     requires { ⌜ Given (asShape z) (now bits) ⌝ }
     requires { ⌜ Standing (asShape z) (now bits) (now c) (now d) (now ones) (now s) (now labels) (first .i) (first .u) (first .singles) (first .next) ⌝ }
     requires { ⌜ (length (now deg) ≡ z .m) × ((x : ℕ) → told (now deg) x ≡ degree (plain (z .l) (now bits)) (asShape z) x) × (z .l + z .l + 1 ≤ length (now sizes)) ⌝ }
-    requires { ⌜ (first .i ≡ 0) × (z .h * z .l ≤ length (now octs)) × (Fair (book (now list) t)) ⌝ }
-    ensures { λ r. ⌜ Outcome (asShape z) (now (bits .entry)) (now (octs .entry)) (book (now (list .entry)) t) (now (c .exit)) (now (d .exit)) (now (list .exit)) r ⌝ }
+    requires { ⌜ (first .i ≡ 0) × (z .h * z .l ≤ length (now octets)) × (Fair (book (now list) t)) ⌝ }
+    ensures { λ r. ⌜ Outcome (asShape z) (now (bits .entry)) (now (octets .entry)) (phase-one (plain (z .l) (now (bits .entry))) (asShape z)) (book (now (list .entry)) t) (now (c .exit)) (now (d .exit)) (now (list .exit)) r ⌝ }
 {
     let l = z.l;
     let mut st = first;
@@ -77,21 +77,22 @@ pub fn steps(
         let made = stepping::turn(bits, z, c, d, ones, deg, s, labels, sizes, st);
         match made {
             Made::Nothing => {
-                return First::NoPivot(st, r);
+                return First::NoPivot(r);
             }
             Made::Stepped(next) => {
-                r = clear_step(bits, octs, z, i, c, d, list, r);
+                r = clear_step(bits, octets, z, i, c, d, list, r);
                 st = next;
             }
         }
     }
-    First::Done(st, r)
+    let i = st.i;
+    First::Done(i, r)
 }
 
 // Phase one over the lent, unchanged matrix: c and d become the columns and rows by place, and its list is recorded.
 pub fn phase_one(
     bits: &[u8],
-    octs: &[u8],
+    octets: &[u8],
     z: Shape,
     c: &mut [usize],
     d: &mut [usize],
@@ -104,9 +105,9 @@ pub fn phase_one(
     t: Tally,
 ) -> First
     requires { ⌜ Given (asShape z) (now bits) ⌝ }
-    requires { ⌜ Lent (asShape z) (length (now octs)) (length (now c)) (length (now d)) (length (now ones)) (length (now deg)) (length (now s)) (length (now labels)) (length (now sizes)) ⌝ }
+    requires { ⌜ Lent (asShape z) (length (now octets)) (length (now c)) (length (now d)) (length (now ones)) (length (now deg)) (length (now s)) (length (now labels)) (length (now sizes)) ⌝ }
     requires { ⌜ Fair (book (now list) t) ⌝ }
-    ensures { λ r. ⌜ Whole (asShape z) (now (bits .entry)) (now (octs .entry)) (book (now (list .entry)) t) (now (c .exit)) (now (d .exit)) (now (list .exit)) r ⌝ }
+    ensures { λ r. ⌜ Outcome (asShape z) (now (bits .entry)) (now (octets .entry)) (phase-one (combined (asShape z) (now (bits .entry)) (now (octets .entry))) (asShape z)) (book (now (list .entry)) t) (now (c .exit)) (now (d .exit)) (now (list .exit)) r ⌝ }
 {
     let begun = opening::start(
         bits,
@@ -131,7 +132,7 @@ pub fn phase_one(
     };
     steps(
         bits,
-        octs,
+        octets,
         z,
         c,
         d,

@@ -3,6 +3,7 @@
 --   Under n xs        every number of xs is below n
 --   Rows l n ys       every row of ys lies within n bytes
 --   Figures f n xs    xs has n entries, and entry x is f x
+--   figures-one       two lists that meet it are equal
 --   gone              nothing is left of a list from its end on
 --   Counting          n ones of row x are counted in the first k columns of v
 --   count-start, count-one, count-none, count-end   that begins, passes a one, passes a column without, is over
@@ -11,14 +12,14 @@
 --   fill-row          the row of the next figure lies within the matrix
 --   in-under          a member of a list whose numbers are all below m is below m
 -- Assumes nothing.
-use mathlib.Core.Path.{_≡_, refl, _∙_}
+use mathlib.Core.Path.{_≡_, refl, sym, _∙_}
 use mathlib.Core.Logic.{inl, inr}
 use mathlib.Core.List.{List, [], _∷_}
 use mathlib.Core.Bool.{Bool, true, false}
-use Prim.Native.Nat.{ℕ, suc, _+_, _*_, _-_, _≤_, _<_}
+use Prim.Native.Nat.{ℕ, suc, _+_, _*_, _≤_, _<_}
 use native.Mathlib.Omega.{arith}
 use lib.ListN.{length, getD, set, drop, length-set, drop-of-length-le}
-use lib.Seq.{getD-set-same, getD-set-other}
+use lib.Seq.{getD-set-same, getD-set-other, ext-getD}
 use lib.Dec.{eqb}
 use borrow.Author.Count.{below-more}
 use Rattle.loops.specs.Part.{drop-next, row-within}
@@ -37,6 +38,10 @@ pub record Rows (l n : ℕ) (ys : List ℕ) : Type 0 where
 pub record Figures (f : ℕ → ℕ) (n : ℕ) (xs : List ℕ) : Type 0 where
   pub long : length xs ≡ n
   pub each : (x : ℕ) → x < n → getD xs x 0 ≡ f x
+
+pub figures-one : {f : ℕ → ℕ} {n : ℕ} {xs ys : List ℕ} → Figures f n xs → Figures f n ys → xs ≡ ys
+figures-one {f} {n} {xs} {ys} p q =
+    ext-getD 0 xs ys (p .long ∙ sym (q .long)) (λ x h. let i : x < n = omega (arith, p .long) in p .each x i ∙ sym (q .each x i))
 
 pub gone : (ys : List ℕ) (k : ℕ) → length ys ≤ k → drop k ys ≡ []
 gone ys k h = drop-of-length-le ys h

@@ -1,4 +1,4 @@
-// The lent binary matrix: an entry, a row's ones, every row's ones.
+// The lent binary matrix: an entry, and a row's ones; and zeros in a lent slice.
 ghost use mathlib.Core.Path.{_≡_};
 ghost use Prim.Native.Nat.{_+_, _*_, _≤_, _<_};
 ghost use lib.ListN.{length};
@@ -30,20 +30,6 @@ pub fn count(bits: &[u8], l: usize, x: usize, v: &[usize]) -> usize
         k += 1;
     }
     n
-}
-
-// Each row's ones in the columns v.
-pub fn counts(bits: &[u8], l: usize, v: &[usize], figures: &mut [usize])
-    requires { ⌜ length (now figures) * l ≤ length (now bits) ⌝ }
-    requires { ⌜ Under l (now v) ⌝ }
-    ensures { λ _. ⌜ Figures (ones (bit l (now (bits .entry))) (now (v .entry))) (length (now (figures .entry))) (now (figures .exit)) ⌝ }
-{
-    let mut x = 0;
-    while x < figures.len() {
-        let n = count(bits, l, x, v);
-        figures[x] = n;
-        x += 1;
-    }
 }
 
 // Zeros.

@@ -2,6 +2,8 @@
 --   marksOf             the labels of a slice, and the next label
 --   zeros               how many columns have no label: each new label leaves one fewer
 --   Ready, Marked       labels are below the next one; what a function made of them
+--   marks-one           two slices of equal length that have the same labels are equal, and so are the next labels
+--   marked-one          two outcomes that meet `Marked` are equal
 --   pair-marked         labels that are changed column by column as a pair asks are those with the pair joined
 --   Next                the next place whose column passes a test
 --   Seeking             a search for it: the columns that pass from place k on are those that pass from place i on
@@ -34,7 +36,7 @@ use mathlib.Core.Bool.{Bool, true, false, cond, not, _&&_, _||_}
 use Prim.Native.Nat.{ℕ, zero, suc, _+_, _-_, _^_, _≤_, _<_}
 use native.Mathlib.Omega.{arith}
 use lib.ListN.{length, getD, take, drop, length-drop}
-use lib.Seq.{getD-drop}
+use lib.Seq.{getD-drop, ext-getD}
 use lib.Dec.{eqb, ltb}
 use borrow.Author.Tests.{eqb-true, eq-eqb, ne-eqb, ltb-true, ltb-false}
 use Rattle.rule.specs.Labels.{joint-pos}
@@ -67,6 +69,12 @@ pub record Marked (m : Marks) (l₀ : List ℕ) (n₀ : ℕ) (l : List ℕ) (n :
   pub few : n + zeros l ≤ n₀ + zeros l₀
   pub ready : Ready l n
   pub is : marksOf l n ≡ m
+
+pub marks-one : {l k : List ℕ} {n j : ℕ} → length l ≡ length k → marksOf l n ≡ marksOf k j → (l ≡ k) × (n ≡ j)
+marks-one {l} {k} h e = (ext-getD 0 l k h (λ c i. ap (λ (m : Marks). m .lab c) e), ap (λ (m : Marks). m .next) e)
+
+pub marked-one : {m : Marks} {l₀ l k : List ℕ} {n₀ n j : ℕ} → Marked m l₀ n₀ l n → Marked m l₀ n₀ k j → (l ≡ k) × (n ≡ j)
+marked-one p q = marks-one (p .kept ∙ sym (q .kept)) (p .is ∙ sym (q .is))
 
 free-less : (a b : ℕ) → (a ≡ 0 → b ≡ 0) → free a ≤ free b
 free-less zero b h = rw (h refl) (omega arith)

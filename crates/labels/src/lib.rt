@@ -1,17 +1,16 @@
-// One label a column, changed in place: what `relabel`, `nextLabel` and `size` of the crate `rule` say.
+// One label a column, changed in place as pairs of columns are joined: what `relabel`, `nextLabel` and `addPairs` of the crate `rule` say.
 ghost use mathlib.Core.Path.{_≡_};
-ghost use mathlib.Core.List.{List, [], _∷_};
 ghost use Prim.Native.Nat.{ℕ, _+_, _*_, _^_, _<_, _≤_};
-ghost use mathlib.Core.Bool.{Bool, not, _&&_, _||_};
-ghost use lib.ListN.{length, getD};
+ghost use lib.ListN.{length};
 ghost use lib.Dec.{eqb};
 ghost use Rattle.rule.specs.Lists.{filter};
 ghost use Rattle.rule.specs.Permitted.{ones as onesIn, count};
-ghost use Rattle.rule.specs.Rule.{joint, nextLabel, relabel, size, addPair, addPairs};
+ghost use Rattle.rule.specs.Rule.{joint, nextLabel, relabel, addPair, addPairs};
 ghost use Rattle.grid.specs.Grid.{bit, Under, Rows};
 ghost use Rattle.labels.specs.Labs.{labs, hit};
 ghost use Rattle.labels.specs.Marking.{marksOf, Ready, Marked, Next, Right, isNoted, notedBy};
 
+// The label of two columns with labels a and b once they are joined; n is the next new label, and 0 is none.
 fn join(a: usize, b: usize, n: usize) -> usize
     ensures { λ r. ⌜ r ≡ joint a b n ⌝ }
 {
@@ -22,6 +21,7 @@ fn join(a: usize, b: usize, n: usize) -> usize
     }
 }
 
+// The next new label once columns with labels a and b are joined.
 fn following(a: usize, b: usize, n: usize) -> usize
     requires { ⌜ n + 1 < 2 ^ 64 ⌝ }
     ensures { λ r. ⌜ r ≡ nextLabel a b n ⌝ }
@@ -33,6 +33,7 @@ fn following(a: usize, b: usize, n: usize) -> usize
     }
 }
 
+// Whether column c, with label v, takes part where the columns p and q, with labels a and b, are joined.
 fn touches(c: usize, p: usize, q: usize, v: usize, a: usize, b: usize) -> bool
     ensures { λ r. ⌜ r ≡ hit c p q v a b ⌝ }
 {
@@ -52,7 +53,7 @@ fn touches(c: usize, p: usize, q: usize, v: usize, a: usize, b: usize) -> bool
 }
 
 // The pair p, q is added: its columns, and all with one of their labels, take the joint label.
-pub fn add_pair(labels: &mut [usize], p: usize, q: usize, n: usize) -> usize
+fn add_pair(labels: &mut [usize], p: usize, q: usize, n: usize) -> usize
     requires { ⌜ (p < length (now labels)) × (q < length (now labels)) × (n + 1 < 2 ^ 64) ⌝ }
     ensures kept { λ _. ⌜ length (now (labels .exit)) ≡ length (now (labels .entry)) ⌝ }
     ensures next { λ r. ⌜ r ≡ nextLabel (labs (now (labels .entry)) p) (labs (now (labels .entry)) q) n ⌝ }
@@ -119,12 +120,12 @@ fn spared(bits: &[u8], l: usize, y: usize, v: &[usize]) -> bool
     false
 }
 
-// Whether row y, which has fig[y] ones left, came down to two when column c left V, the columns cs after it.
+// Whether row y came down to two ones when column c left V, the columns cs after it; fig has the ones that each row has left.
 fn is_noted(bits: &[u8], l: usize, fig: &[usize], c: usize, cs: &[usize], y: usize) -> bool
     requires { ⌜ (y * l + l ≤ length (now bits)) × (Under l (now cs)) × (c < l) × (y < length (now fig)) ⌝ }
     ensures { λ r. ⌜ r ≡ isNoted (bit l (now (bits .entry))) (now (fig .entry)) c (now (cs .entry)) y ⌝ }
 {
-    let n = fig[y];
+    let n = figures::ones_of(fig, y);
     if n == 2 {
         if grid::has(bits, l, y, c) {
             return spared(bits, l, y, cs);

@@ -2,9 +2,11 @@
 --   shape               a shape from its numbers
 --   Lent, Figured       what the figures are made from, and what they are, for the eligible rows e and the columns v of V
 --   lent-columns, lent-rows   the columns of V are below l; each eligible row has a figure
+--   lent-degrees        degrees that are the ones
 --   lent-given          the labels' part of it
 --   Opens               the lengths of the slices, by the shape
 --   Opened              each slice as phase one begins
+--   opened-one          two outcomes that meet it are equal in what is in use
 --   rows-low, rows-apart   the rows that may be chosen are below the number of rows, none twice
 --   opens-columns, opens-rows, opens-lent, opened   V and the eligible rows as parts of their slices; what the figures ask; the whole
 --   opened-figure       an eligible row's figure
@@ -18,7 +20,7 @@ use Prim.Native.Nat.{ℕ, zero, suc, _+_, _-_, _*_, _≤_, _<_}
 use native.Mathlib.Nat.{mul-le-mul-right}
 use native.Mathlib.Omega.{arith}
 use lib.ListN.{length, getD, take, drop, length-append, List·getD-eq-default}
-use lib.Seq.{take-at}
+use lib.Seq.{take-at, ext-getD}
 use lib.Dec.{eqb}
 use borrow.Author.Tests.{eqb-true}
 use Rattle.loops.specs.Part.{row-within}
@@ -27,9 +29,11 @@ use Rattle.rule.specs.Sets.{in-filter, nodup-filter, in-at}
 use Rattle.rule.specs.Permitted.{count}
 use Rattle.rule.specs.Rule.{Marks, start, firstSingles, firstMarks}
 use Rattle.rule.specs.Alike.{filter-alike}
-use Rattle.grid.specs.Grid.{bit, Under, Figures}
+use Rattle.grid.specs.Grid.{bit, Under, Figures, figures-one}
+use Rattle.figures.specs.Told.{told}
+use Rattle.singles.specs.Facts.{front-one}
 use Rattle.singles.specs.Figures.{Held, Sound}
-use Rattle.labels.specs.Marking.{marksOf, zeros, Ready}
+use Rattle.labels.specs.Marking.{marksOf, zeros, Ready, marks-one}
 use Rattle.phases.specs.System.{Shape, range, first-rows, octet-rows}
 use Rattle.phases.specs.One.{begin}
 use Rattle.phases.specs.Matrix.{length-range}
@@ -47,7 +51,7 @@ pub record Lent (l : ℕ) (bits e v : List ℕ) (m degrees room long sizes : ℕ
   pub within : length v ≤ l
   pub rows : Under m e
   pub matrix : m * l ≤ length bits
-  pub measured : degrees * l ≤ length bits
+  pub measured : degrees ≤ m
   pub singles : length e ≤ room
   pub labelled : l ≤ long
   pub fits : long + 1 ≤ sizes
@@ -66,6 +70,9 @@ module _ {l : ℕ} {bits e v : List ℕ} {m degrees room long sizes : ℕ} (t : 
 
   pub lent-rows : {fig : List ℕ} {f : ℕ → ℕ} → Figures f m fig → Under (length fig) e
   lent-rows g = record { at = λ k i. omega (arith, t .rows .at k i, g .long) }
+
+  pub lent-degrees : {f : ℕ → ℕ} {fig deg : List ℕ} → Figures f m fig → Figures (told fig) degrees deg → Figures f degrees deg
+  lent-degrees g d = record { long = d .long; each = λ x i. d .each x i ∙ g .each x (omega (arith, t .measured)) }
 
   pub lent-given : {fig : List ℕ} → Figures (count (bit l bits) v) m fig → Given l bits e v fig long sizes
   lent-given {fig} g = record {
@@ -107,6 +114,22 @@ pub record Opened (z : Shape) (bits c d fig deg s labels : List ℕ) (n next : �
   pub ready : Ready labels next
   pub labelled : length labels ≡ z .n
   pub few : next + zeros labels ≤ z .n + z .n + 1
+
+pub opened-one : {z : Shape} {bits c d fig deg s labels c′ d′ fig′ deg′ s′ labels′ : List ℕ} {n next n′ next′ : ℕ} → Opened z bits c d fig deg s labels n next
+    → Opened z bits c′ d′ fig′ deg′ s′ labels′ n′ next′
+    → (c ≡ c′) × (d ≡ d′) × (fig ≡ fig′) × (deg ≡ deg′) × (n ≡ n′) × (take n s ≡ take n′ s′) × (labels ≡ labels′) × (next ≡ next′)
+opened-one {deg = deg} {s = s} {deg′ = deg′} {s′ = s′} {n = n} {n′ = n′} p q =
+    let l = p .singles ∙ sym (q .singles) in
+    let m = marks-one (p .labelled ∙ sym (q .labelled)) (p .marks ∙ sym (q .marks)) in (
+      p .cols ∙ sym (q .cols),
+      p .rows ∙ sym (q .rows),
+      figures-one (p .figures) (q .figures),
+      ext-getD 0 deg deg′ (p .measured ∙ sym (q .measured)) (λ x _. p .degrees x ∙ sym (q .degrees x)),
+      front-one s s′ n n′ (p .sound .used) (q .sound .used) l,
+      l,
+      m .0,
+      m .1,
+    )
 
 range-join : (a k j : ℕ) → range a (k + j) ≡ range a k ++ range (a + k) j
 range-join a zero j =
@@ -167,7 +190,7 @@ lent-at z bits {c} {d} {fig} {deg} {s} {labels} {sizes} o =
       within = omega (arith, o .cols-fit);
       rows = record { at = λ k i. omega (arith, o .figured, rows-low z (o .rows-fit) (getD (first-rows z) k 0) (in-at (first-rows z) k i)) };
       matrix = omega (arith, o .matrix, ap (λ (i : ℕ). i * z .n) (o .figured));
-      measured = omega (arith, o .matrix, ap (λ (i : ℕ). i * z .n) (o .measured));
+      measured = omega (arith, o .figured, o .measured);
       singles = omega (arith, o .single);
       labelled = omega (arith, o .labelled);
       fits = omega (arith, o .labelled, o .sized);

@@ -1,6 +1,5 @@
 // Phase one before its first step: the order of columns and rows, the row figures, the rows with a single one, and the labels of columns.
 ghost use mathlib.Core.Path.{_≡_};
-ghost use mathlib.Core.List.{_++_};
 ghost use Prim.Native.Nat.{ℕ, _+_, _≤_, _<_};
 ghost use lib.ListN.{length};
 ghost use Rattle.rule.specs.Lists.{filter};
@@ -61,7 +60,7 @@ fn add_twos(
     let mut k = 0;
     while k < ys.len() {
         let y = ys[k];
-        if fig[y] == 2 {
+        if figures::ones_of(fig, y) == 2 {
             m = labels::add_row(bits, l, y, v, labels, m);
         }
         k += 1;
@@ -135,8 +134,8 @@ fn figures(
     requires { ⌜ Lent l (now bits) (now e) (now v) (length (now ones)) (length (now deg)) (length (now s)) (length (now labels)) (length (now sizes)) ⌝ }
     ensures { λ r. ⌜ Figured (bit l (now (bits .entry))) (now (e .entry)) (now (v .entry)) (length (now (ones .entry))) (length (now (deg .entry))) (length (now (s .entry))) (length (now (labels .entry))) (now (ones .exit)) (now (deg .exit)) (now (s .exit)) (now (labels .exit)) (r .singles) (r .next) ⌝ }
 {
-    grid::counts(bits, l, v, ones);
-    grid::counts(bits, l, v, deg);
+    figures::counts(bits, l, v, ones);
+    figures::degrees(ones, deg);
     let singles = singles::first_singles(e, ones, s);
     let next = first_marks(bits, l, e, v, ones, labels, sizes);
     Begun { singles, next }

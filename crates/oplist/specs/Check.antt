@@ -1,6 +1,5 @@
 -- The checks on a list and an order. m is the number of slab rows, l that of columns.
---   mostRows, mostOps   the most rows of a slab, and the most operations of a list
---   shapeFine    at least one column, no more columns than rows, rows and operations within those bounds
+--   shapeFine    at least one column, no more columns than rows, rows and operations within the bounds
 --   twoRows      two rows below m, not the same
 --   opFine       rows of an operation that are below m, and dest not src in AddAssign and FMA
 --   wordFine     the same of a word, which is of a known kind
@@ -18,17 +17,12 @@ use mathlib.Core.Bool.{Bool, true, false, not, _&&_, _||_}
 use mathlib.Core.List.{List, [], _∷_}
 use lib.Dec.{leb, ltb, eqb}
 use lib.ListN.{length}
+use Rattle.bounds.specs.Bounds.{mostRows, mostOps}
 use Rattle.oplist.specs.declared.Op.{Op}
 use Rattle.oplist.specs.declared.Op.the-variants.{AddAssign, MulAssign, FMA}
 use Rattle.oplist.specs.declared.Word.{Word}
 use Rattle.oplist.specs.declared.Word.the-variants.{Known, Unknown}
 use Rattle.oplist.specs.Word.{meaning}
-
-abbrev pub mostRows : ℕ
-mostRows = 256
-
-abbrev pub mostOps : ℕ
-mostOps = 1048576
 
 -- n operations on m rows, for l columns
 unfoldable pub shapeFine : ℕ → ℕ → ℕ → Bool

@@ -33,7 +33,8 @@ use Rattle.oplist.specs.declared.Word.the-variants.{Known, Unknown}
 use Rattle.oplist.specs.Ops.{Within, Apart, Nonzero, Each}
 use Rattle.oplist.specs.Word.{meaning}
 use Rattle.oplist.specs.Listed.{isKnown, withOp, known, opsOf, opsOf-drop}
-use Rattle.oplist.specs.Check.{mostRows, mostOps, shapeFine, twoRows, opFine, wordFine, listFine, has, rowsFine, orderFine, opUndoable, wordUndoable, undoable}
+use Rattle.bounds.specs.Bounds.{mostRows, mostOps}
+use Rattle.oplist.specs.Check.{shapeFine, twoRows, opFine, wordFine, listFine, has, rowsFine, orderFine, opUndoable, wordUndoable, undoable}
 
 pub never : {A : Type 0} → false ≡ true → A
 never e = let z : _≡_ {A = ℕ} 0 1 = cc in absurd (omega arith)

@@ -6,7 +6,7 @@ ghost use Rattle.loops.specs.Room.{log, put};
 ghost use Rattle.oplist.specs.Word.{word, Small, packed, meaning};
 ghost use Rattle.oplist.specs.Multiple.{multiple};
 ghost use Rattle.oplist.specs.Listed.{opsOf};
-ghost use Rattle.oplist.specs.Count.{adds, muls, wordAdds, wordMuls};
+ghost use Rattle.oplist.specs.Count.{addsIn, mulsIn, adds, muls, wordAdds, wordMuls};
 ghost use Rattle.oplist.specs.Check.{shapeFine, twoRows, opFine, wordFine, listFine, has, rowsFine, orderFine, wordUndoable, undoable};
 
 // One operation on the rows of a slab, rows by their number.
@@ -26,6 +26,7 @@ pub enum Word {
     Unknown,
 }
 
+// The same number, in 64 bits.
 fn wide(x: u8) -> u64
     ensures { λ r. ⌜ r ≡ x ⌝ }
 {
@@ -100,28 +101,44 @@ pub fn record(list: &mut [u64], n: usize, op: Op) -> usize
     list.len() + 1
 }
 
+// How many additions an operation asks for.
+pub fn adds_of(op: Op) -> usize
+    ensures { λ r. ⌜ r ≡ addsIn op ⌝ }
+{
+    match op {
+        Op::AddAssign(_, _) => 1,
+        Op::MulAssign(_, _) => 0,
+        Op::FMA(_, _, _) => 1,
+    }
+}
+
+// How many multiplications an operation asks for.
+pub fn muls_of(op: Op) -> usize
+    ensures { λ r. ⌜ r ≡ mulsIn op ⌝ }
+{
+    match op {
+        Op::AddAssign(_, _) => 0,
+        Op::MulAssign(_, _) => 1,
+        Op::FMA(_, _, _) => 1,
+    }
+}
+
+// How many additions a word asks for; an unknown kind asks for none.
 fn word_adds(w: u64) -> usize
     ensures { λ r. ⌜ r ≡ wordAdds (meaning w) ⌝ }
 {
     match unpack(w) {
-        Word::Known(op) => match op {
-            Op::AddAssign(_, _) => 1,
-            Op::MulAssign(_, _) => 0,
-            Op::FMA(_, _, _) => 1,
-        },
+        Word::Known(op) => adds_of(op),
         Word::Unknown => 0,
     }
 }
 
+// How many multiplications a word asks for; an unknown kind asks for none.
 fn word_muls(w: u64) -> usize
     ensures { λ r. ⌜ r ≡ wordMuls (meaning w) ⌝ }
 {
     match unpack(w) {
-        Word::Known(op) => match op {
-            Op::AddAssign(_, _) => 0,
-            Op::MulAssign(_, _) => 1,
-            Op::FMA(_, _, _) => 1,
-        },
+        Word::Known(op) => muls_of(op),
         Word::Unknown => 0,
     }
 }
@@ -152,11 +169,6 @@ pub fn multiplications(list: &[u64]) -> usize
     n
 }
 
-// The most rows of a slab, and the most operations of a list.
-pub const MOST_ROWS: usize = 256;
-
-pub const MOST_OPS: usize = 1048576;
-
 // Whether n operations on m rows, for l columns, keep to the bounds.
 pub fn shape_fine(m: usize, l: usize, n: usize) -> bool
     ensures { λ r. ⌜ r ≡ shapeFine m l n ⌝ }
@@ -167,12 +179,13 @@ pub fn shape_fine(m: usize, l: usize, n: usize) -> bool
     if m < l {
         return false;
     }
-    if MOST_ROWS < m {
+    if bounds::MOST_ROWS < m {
         return false;
     }
-    n <= MOST_OPS
+    n <= bounds::MOST_OPS
 }
 
+// Whether d and s are two different rows of m.
 fn two_rows(m: usize, d: usize, s: usize) -> bool
     ensures { λ r. ⌜ r ≡ twoRows m d s ⌝ }
 {
@@ -233,6 +246,7 @@ fn stands(order: &[usize], from: usize, x: usize) -> bool
     false
 }
 
+// Whether the entries of an order are different rows of m.
 fn rows_fine(m: usize, order: &[usize]) -> bool
     ensures { λ r. ⌜ r ≡ rowsFine m (now (order .entry)) ⌝ }
 {
@@ -263,6 +277,7 @@ pub fn order_fine(m: usize, l: usize, ordered: bool, order: &[usize]) -> bool
     true
 }
 
+// Whether the operation of a word can be undone: it is no scaling by zero.
 fn word_undoable(w: u64) -> bool
     ensures { λ r. ⌜ r ≡ wordUndoable (meaning w) ⌝ }
 {

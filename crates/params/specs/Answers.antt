@@ -17,7 +17,8 @@ use native.Mathlib.Omega.{arith}
 use borrow.Author.Tests.{le-leb, lt-leb, ne-eqb}
 use lib.Dec.{leb, eqb}
 use Rattle.params.specs.Table.{Row, table}
-use Rattle.params.specs.Params.{mostRows, Entry, entry, none, pick, first, lengthOf, sizes, answer, paramsOf, number, entryRefusal, refusalOf, Answered}
+use Rattle.bounds.specs.Bounds.{mostRows}
+use Rattle.params.specs.Params.{Entry, entry, none, pick, first, lengthOf, sizes, answer, paramsOf, number, entryRefusal, refusalOf, Answered}
 use Rattle.params.specs.Rule.{Right, table-ruled, right-at}
 use Rattle.params.specs.Smallest.{Smallest, within, first-smallest, smallest-first, first-none, none-first}
 use Rattle.params.specs.declared.Sizes.{Sizes}

@@ -1,5 +1,4 @@
 -- The parameters of a source block of k symbols (RFC 6330, 5.3.1, 5.3.3.3 and 5.6), what `params` answers.
---   mostRows     the most rows that a system may have
 --   Entry, pick  a row, or none; one of two, by a test
 --   first k t    the row of t for k, an Entry
 --   lengthOf r   L of a row;  sizes r   all its figures
@@ -13,14 +12,11 @@ use mathlib.Core.Bool.{Bool, true, false}
 use mathlib.Core.List.{List, [], _∷_}
 use Prim.Native.Nat.{ℕ, _+_, _-_}
 use lib.Dec.{leb, eqb}
+use Rattle.bounds.specs.Bounds.{mostRows}
 use Rattle.params.specs.Table.{Row, table}
 use Rattle.params.specs.declared.Sizes.{Sizes}
 use Rattle.params.specs.declared.Parameters.{Parameters}
 use Rattle.params.specs.declared.Parameters.the-variants.{Found, BadCount}
-
--- the most rows that a system may have, and so the most columns
-abbrev pub mostRows : ℕ
-mostRows = 256
 
 -- a row, or none
 pub data Entry : Type 0 where

@@ -493,9 +493,6 @@ const S_UNIT: u64 = 10_000_000;
 
 const H_UNIT: u64 = 100_000;
 
-// The most rows that a system may have, and so the most columns.
-pub const MOST_ROWS: usize = 256;
-
 // The sizes of a source block: K', the systematic index J, S LDPC and H HDPC symbols, W LT symbols,
 // L intermediate symbols and P of them permanently inactive (RFC 6330, 5.3.3.3).
 pub struct Sizes {
@@ -543,7 +540,7 @@ fn answer(row: u64) -> Parameters
     let h = (row % S_UNIT / H_UNIT) as usize;
     let w = (row % H_UNIT) as usize;
     let l = k + s + h;
-    if l <= MOST_ROWS {
+    if l <= bounds::MOST_ROWS {
         return Parameters::Found(Sizes {
             k,
             j,

@@ -257,11 +257,11 @@ module _ (z : Shape) (A : ℕ → ℕ → ℕ) (fit : Fit z A) where
       next : drop j cols ≡ q ∷ drop (suc j) cols
       next = drop-cons cols j 0 jl
 
-      todo : (k : ℕ) → occ k (pivots-of (ts ++ us)) + (tick (eqb k q) + occ k (drop (suc j) cols)) ≡ occ k v + occ k (range (z .w) (z .n - z .w))
-      todo k = ap (λ (l : List ℕ). occ k (pivots-of (ts ++ us)) + occ k l) (sym next) ∙ columns j f S k
+      spread : (k : ℕ) → occ k (pivots-of (ts ++ us)) + (tick (eqb k q) + occ k (drop (suc j) cols)) ≡ occ k v + occ k (range (z .w) (z .n - z .w))
+      spread k = ap (λ (l : List ℕ). occ k (pivots-of (ts ++ us)) + occ k l) (sym next) ∙ columns j f S k
 
       ql : q < z .n
-      ql = cols-below z (fit .cols-fit) q (omega (arith, todo q, tick-eq q q refl))
+      ql = cols-below z (fit .cols-fit) q (omega (arith, spread q, tick-eq q q refl))
 
       none : (y : ℕ) → Member (last-rows us (last-rows ts rows)) y → D y q ≡ 0
       none y k =
@@ -277,8 +277,8 @@ module _ (z : Shape) (A : ℕ → ℕ → ℕ) (fit : Fit z A) where
         below = low;
         legal = walk .legal;
         works = works j f S;
-        apart = λ k. omega (arith, todo k, cols-once z (fit .cols-fit) k);
-        column = λ k i. cols-below z (fit .cols-fit) k (omega (arith, todo k));
+        apart = λ k. omega (arith, spread k, cols-once z (fit .cols-fit) k);
+        column = λ k i. cols-below z (fit .cols-fit) k (omega (arith, spread k));
         none = none;
       }
 

@@ -34,6 +34,7 @@ pub fn mark(marks: &mut [usize], xs: &[usize])
     }
 }
 
+// The row that an operation changes.
 fn dest_of(op: Op) -> usize
     ensures { λ r. ⌜ r ≡ dest op ⌝ }
 {
@@ -199,6 +200,7 @@ fn row_value(work: &[u8], l: usize, x: usize, b: usize, g: usize, c: &[usize], v
     weigh_row(&work[a..e], &c[b..g], vector)
 }
 
+// The later of two places.
 fn later(i: usize, e: usize) -> usize
     ensures { λ r. ⌜ r ≡ start i e ⌝ }
 {

@@ -20,6 +20,7 @@ use Rattle.loops.specs.Way.{Way, go, halt}
 use Rattle.oplist.specs.declared.Op.{Op}
 use Rattle.algebra.specs.Flat.{Bytes}
 use Rattle.phases.specs.System.{Shape as Defined, first-rows, octet-rows}
+use Rattle.phases.specs.One.{Phase}
 use Rattle.phases.specs.Two.{Second, forward}
 use Rattle.phases.specs.Run.{Run, whole, finish, second, refused, goes-on, defined}
 use Rattle.phases.specs.Occ.{occ-append, occ-range, Member}
@@ -28,8 +29,7 @@ use Rattle.tally.specs.declared.Tally.{Tally}
 use Rattle.tally.specs.Book.{Book, book, Fair}
 use Rattle.stepping.specs.Stands.{Given}
 use Rattle.firstphase.specs.declared.First.{First as Ended-first}
-use Rattle.firstphase.specs.Ended.{Ended}
-use Rattle.firstphase.specs.Same.{Whole}
+use Rattle.firstphase.specs.Ended.{Ended, Outcome}
 use Rattle.firstphase.specs.Begins.{Lent}
 use Rattle.call.specs.declared.Shape.{Shape}
 use Rattle.answers.specs.declared.Answer.{Answer}
@@ -129,18 +129,18 @@ module _ (z : Shape) (bits octets : List ℕ) where
       octets = omega (arith, P .octets-size);
     }
 
-    module _ {g₀ : Book} {c d ws ws₀ : List ℕ} {i u : ℕ} {t : Tally} (start : g₀ ≡ book ws₀ unused)
-        (E : Ended (asShape z) bits octets g₀ (p z bits octets) c d i u (book ws t)) where
-      E′ : Ended (asShape z) bits octets (book ws₀ unused) (p z bits octets) c d i u (book ws t)
-      E′ = subst (λ (g : Book). Ended (asShape z) bits octets g (p z bits octets) c d i u (book ws t)) start E
+    module _ {g₀ : Book} {c d ws ws₀ : List ℕ} {t : Tally} (start : g₀ ≡ book ws₀ unused)
+        (E : Ended (asShape z) bits octets (p z bits octets) g₀ c d (book ws t)) where
+      E′ : Ended (asShape z) bits octets (p z bits octets) (book ws₀ unused) c d (book ws t)
+      E′ = subst (λ (g : Book). Ended (asShape z) bits octets (p z bits octets) g c d (book ws t)) start E
 
       held : Holds ws₀ (os z bits octets) (book ws t)
       held = subst (Holds ws₀ (os z bits octets)) (sym (E′ .listed .is)) (holds-first ws₀ (book ws₀ unused) refl refl (fair-unused ws₀) (os z bits octets))
 
-      pub first-is : i + u ≡ z .l → First z bits octets i c d ws t
-      first-is e = record {
-        empty = none-left (p z bits octets .now .cols) (omega (arith, E′ .left));
-        steps = E′ .i-is;
+      pub first-is : {i : ℕ} → i ≡ length (ts z bits octets) → length (p z bits octets .now .cols) ≡ 0 → First z bits octets i c d ws t
+      first-is e k = record {
+        empty = none-left (p z bits octets .now .cols) k;
+        steps = e;
         columns = E′ .cols;
         rows = E′ .rows;
         from = ws₀;
@@ -162,7 +162,7 @@ module _ (z : Shape) (bits octets : List ℕ) where
           lt-ltb (length ws₀) (length (whole (defined (Z z bits octets) (A z bits octets) false))) (omega arith) in
           rw f (record { is = refl; listed = refl; fits = omega arith; ordered = a; vectored = b })
 
-      pub pivotless : (order₀ vector₀ order vector : List ℕ) → i + u < z .l → t .used ≤ length ws → order ≡ blank order₀ → vector ≡ blank vector₀
+      pub pivotless : (order₀ vector₀ order vector : List ℕ) → 0 < length (p z bits octets .now .cols) → t .used ≤ length ws → order ≡ blank order₀ → vector ≡ blank vector₀
           → Ran (told (asShape z) bits octets (length ws₀)) NoPivot ws order₀ vector₀ order vector
       unfolding told answerOf
       pivotless order₀ vector₀ order vector e h a b =
@@ -172,11 +172,11 @@ module _ (z : Shape) (bits octets : List ℕ) where
           length-append (((os z bits octets ++ []) ++ []) ++ []) [] ∙ omega (arith, length-append ((os z bits octets ++ []) ++ []) [], length-append (os z bits octets ++ []) [], length-append (os z bits octets) []) in
           let f : ltb (length ws₀) (length (whole (refused (Z z bits octets) (A z bits octets) (p z bits octets)))) ≡ false =
           le-ltb (length ws₀) (length (whole (refused (Z z bits octets) (A z bits octets) (p z bits octets)))) (omega arith) in
-          rw (refused-is (omega (arith, E′ .left)), f) (record { is = refl; listed = refl; fits = omega arith; ordered = a; vectored = b })
+          rw (refused-is e, f) (record { is = refl; listed = refl; fits = omega arith; ordered = a; vectored = b })
 
 -- an answer of phase one, by its case
-pub outcome-at : (y : Defined) (bits octets : List ℕ) (g : Book) (c d ws : List ℕ) {r r′ : Ended-first} → r ≡ r′ → Whole y bits octets g c d ws r → Whole y bits octets g c d ws r′
-outcome-at y bits octets g c d ws e o = subst (λ (x : Ended-first). Whole y bits octets g c d ws x) e o
+pub outcome-at : (y : Defined) (bits octets : List ℕ) (p : Phase) (g : Book) (c d ws : List ℕ) {r r′ : Ended-first} → r ≡ r′ → Outcome y bits octets p g c d ws r → Outcome y bits octets p g c d ws r′
+outcome-at y bits octets p g c d ws e o = subst (λ (x : Ended-first). Outcome y bits octets p g c d ws x) e o
 
 pub room-kept : {l a b : ℕ} → a ≡ b → l ≤ b → l ≤ a
 room-kept {l} e h = subst (λ (x : ℕ). l ≤ x) (sym e) h

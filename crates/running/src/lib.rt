@@ -58,19 +58,18 @@ fn run(
         list,
         t,
     ) {
-        firstphase::First::NoPivot(_, one) => {
+        firstphase::First::NoPivot(one) => {
             let used = one.used;
             if list.len() < used {
                 return Answer::ListFull;
             }
             Answer::NoPivot
         }
-        firstphase::First::Done(st, one) => {
+        firstphase::First::Done(i, one) => {
             let used = one.used;
             if list.len() < used {
                 return Answer::ListFull;
             }
-            let i = st.i;
             ending::go_on(
                 z,
                 i,
@@ -80,7 +79,7 @@ fn run(
                 rows,
                 work,
                 scratch,
-                ones,
+                singles,
                 list,
                 order,
                 vector,

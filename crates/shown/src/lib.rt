@@ -14,6 +14,7 @@ use oplist::Op;
 use oplist::Word;
 use stored::Reading;
 
+// One byte more, where there is room.
 fn put(out: &mut [u8], n: usize, b: u8) -> usize
     ensures { λ r. ⌜ log (now (out .exit)) r ≡ put byte (log (now (out .entry)) n) b ⌝ }
 {
@@ -24,6 +25,7 @@ fn put(out: &mut [u8], n: usize, b: u8) -> usize
     out.len() + 1
 }
 
+// The bytes of s more.
 fn put_all(out: &mut [u8], n: usize, s: &[u8]) -> usize
     ensures { λ r. ⌜ log (now (out .exit)) r ≡ puts byte (log (now (out .entry)) n) (now (s .entry)) ⌝ }
 {
@@ -36,6 +38,7 @@ fn put_all(out: &mut [u8], n: usize, s: &[u8]) -> usize
     at
 }
 
+// The decimal digit x.
 fn digit(x: usize) -> u8
     ensures { λ r. ⌜ r ≡ 48 + x % 10 ⌝ }
 {
@@ -66,6 +69,7 @@ fn put_number(out: &mut [u8], n: usize, x: usize) -> usize
     put(out, f, digit(x))
 }
 
+// A word and a number after it.
 fn put_named(out: &mut [u8], n: usize, word: &[u8], x: usize) -> usize
     ensures { λ r. ⌜ log (now (out .exit)) r ≡ puts byte (log (now (out .entry)) n) (named (now (word .entry)) x) ⌝ }
 {
@@ -73,6 +77,7 @@ fn put_named(out: &mut [u8], n: usize, word: &[u8], x: usize) -> usize
     put_number(out, a, x)
 }
 
+// The first line: rows, columns, operations.
 fn put_shape(out: &mut [u8], n: usize, m: usize, l: usize, ops: usize) -> usize
     ensures { λ r. ⌜ log (now (out .exit)) r ≡ puts byte (log (now (out .entry)) n) (shapeText m l ops) ⌝ }
 {
@@ -82,12 +87,14 @@ fn put_shape(out: &mut [u8], n: usize, m: usize, l: usize, ops: usize) -> usize
     put_all(out, c, b"\n")
 }
 
+// The same number, as a usize.
 fn wide(x: u8) -> usize
     ensures { λ r. ⌜ r ≡ x ⌝ }
 {
     x as usize
 }
 
+// The line of an AddAssign.
 fn put_add(out: &mut [u8], n: usize, dest: usize, src: usize) -> usize
     ensures { λ r. ⌜ log (now (out .exit)) r ≡ puts byte (log (now (out .entry)) n) (named addWord dest ++ (named space src ++ newline)) ⌝ }
 {
@@ -96,6 +103,7 @@ fn put_add(out: &mut [u8], n: usize, dest: usize, src: usize) -> usize
     put_all(out, b, b"\n")
 }
 
+// The line of a MulAssign.
 fn put_mul(out: &mut [u8], n: usize, dest: usize, scalar: usize) -> usize
     ensures { λ r. ⌜ log (now (out .exit)) r ≡ puts byte (log (now (out .entry)) n) (named mulWord dest ++ (named space scalar ++ newline)) ⌝ }
 {
@@ -104,6 +112,7 @@ fn put_mul(out: &mut [u8], n: usize, dest: usize, scalar: usize) -> usize
     put_all(out, b, b"\n")
 }
 
+// The line of an FMA.
 fn put_fma(out: &mut [u8], n: usize, dest: usize, src: usize, scalar: usize) -> usize
     ensures { λ r. ⌜ log (now (out .exit)) r ≡ puts byte (log (now (out .entry)) n) (named fmaWord dest ++ (named space src ++ (named space scalar ++ newline))) ⌝ }
 {
@@ -127,6 +136,7 @@ fn put_word(out: &mut [u8], n: usize, w: u64) -> usize
     }
 }
 
+// A line for each operation.
 fn put_words(out: &mut [u8], n: usize, list: &[u64]) -> usize
     ensures { λ r. ⌜ log (now (out .exit)) r ≡ puts byte (log (now (out .entry)) n) (opsText (opsOf (now (list .entry)))) ⌝ }
 {
@@ -139,12 +149,14 @@ fn put_words(out: &mut [u8], n: usize, list: &[u64]) -> usize
     at
 }
 
+// One entry of the order.
 fn put_entry(out: &mut [u8], n: usize, x: usize) -> usize
     ensures { λ r. ⌜ log (now (out .exit)) r ≡ puts byte (log (now (out .entry)) n) (named space x) ⌝ }
 {
     put_named(out, n, b" ", x)
 }
 
+// The entries of the order.
 fn put_entries(out: &mut [u8], n: usize, order: &[usize]) -> usize
     ensures { λ r. ⌜ log (now (out .exit)) r ≡ puts byte (log (now (out .entry)) n) (entriesText (now (order .entry))) ⌝ }
 {
@@ -157,6 +169,7 @@ fn put_entries(out: &mut [u8], n: usize, order: &[usize]) -> usize
     at
 }
 
+// The last line: the order, or that there is none.
 fn put_order(out: &mut [u8], n: usize, ordered: bool, order: &[usize]) -> usize
     ensures { λ r. ⌜ log (now (out .exit)) r ≡ puts byte (log (now (out .entry)) n) (orderText ordered (now (order .entry))) ⌝ }
 {

@@ -1,5 +1,7 @@
 -- `swapRemove` by places: the rows with a single one at the front of a slice, of which one is taken out, put in, or both.
 --   Kept                    the slice is as long as it was, and its first r entries are the list l
+--   front-one               equal lists at the fronts of two slices are equally many entries
+--   kept-one                two outcomes that meet `Kept` are equal in what is in use
 --   absent, present         `swapRemove` of a number: it is not in the list, which stays; it is, first at place k, and the last number comes there
 --   kept-out, kept-same     the slice, where the number is found and taken out, and where it is not found
 --   kept-put, kept-all      the slice with a number more after the first n; the slice as it is
@@ -29,6 +31,12 @@ pub record Kept (old now : List ℕ) (r : ℕ) (l : List ℕ) : Type 0 where
   pub room : length now ≡ length old
   pub used : r ≤ length now
   pub holds : take r now ≡ l
+
+pub front-one : (s t : List ℕ) (n m : ℕ) → n ≤ length s → m ≤ length t → take n s ≡ take m t → n ≡ m
+front-one s t n m h k e = sym (length-take-le n s h) ∙ ap length e ∙ length-take-le m t k
+
+pub kept-one : {old now now′ l : List ℕ} {r r′ : ℕ} → Kept old now r l → Kept old now′ r′ l → (r ≡ r′) × (take r now ≡ take r′ now′)
+kept-one {old} {now} {now′} {l} {r} {r′} p q = let e = p .holds ∙ sym (q .holds) in (front-one now now′ r r′ (p .used) (q .used) e, e)
 
 last-at : (b : ℕ) (l : List ℕ) → lastFirst (b ∷ l) ≡ getD (b ∷ l) (length l) 0 ∷ take (length l) (b ∷ l)
 last-at b [] = refl

@@ -8,6 +8,7 @@
 --   room-left, absent    a row that is not in the list has a place there; a row whose count is not one is not in the list
 --   lose-held, first-held, renew-held   the list stays so: where a row loses a one, at the chosen row's first loss, where a row is renewed
 --   Done                 the slices went from one state to what g makes of it
+--   done-one             two outcomes that meet it are equal in what is in use
 --   then                 one such change, and then another
 --   lose-room, renew-room   there is room for the row that is put in
 --   lose-done, first-done, renew-done   the change of a row, by what the slice of the list then holds
@@ -21,7 +22,7 @@
 --   under-still          numbers below n are below a number equal to n
 -- Assumes nothing.
 use mathlib.Core.Path.{_≡_, refl, sym, ap, ap₂, subst, _∙_}
-use mathlib.Core.Logic.{_⊎_, inl, inr, ⊎-elim}
+use mathlib.Core.Logic.{inl, inr, ⊎-elim}
 use mathlib.Core.List.{List, [], _∷_, _++_}
 use mathlib.Core.Bool.{Bool, true, false, cond}
 use Prim.Native.Nat.{ℕ, zero, suc, _+_, _-_, _*_, _≤_, _<_}
@@ -36,7 +37,8 @@ use Rattle.rule.specs.Sets.{bool-or, in-cast, sub-length}
 use Rattle.rule.specs.Rule.{swapRemove, lose, loseFirst, refresh}
 use Rattle.rule.specs.Singles.{in-either, Removed, removed, nodup-snoc}
 use Rattle.grid.specs.Grid.{gone, Under, Rows}
-use Rattle.singles.specs.Facts.{Kept}
+use Rattle.figures.specs.Told.{Taken}
+use Rattle.singles.specs.Facts.{Kept, front-one}
 
 pub record Fig : Type 0 where
   pub cnt : List ℕ
@@ -178,6 +180,13 @@ pub record Done (g : Fig → Fig) (ones₀ s₀ : List ℕ) (n₀ : ℕ) (ones s
   pub sound : Sound ones s n
   pub is : fig ones s n ≡ g (fig ones₀ s₀ n₀)
 
+pub done-one : {g : Fig → Fig} {ones₀ s₀ ones s ones′ s′ : List ℕ} {n₀ n n′ : ℕ} → Done g ones₀ s₀ n₀ ones s n → Done g ones₀ s₀ n₀ ones′ s′ n′
+    → (ones ≡ ones′) × (n ≡ n′) × (take n s ≡ take n′ s′)
+done-one {s = s} {s′ = s′} {n = n} {n′ = n′} p q =
+    let e = p .is ∙ sym (q .is) in
+    let l = ap (λ (f : Fig). f .singles) e in
+    (ap (λ (f : Fig). f .cnt) e, front-one s s′ n n′ (p .sound .used) (q .sound .used) l, l)
+
 pub then : {g h : Fig → Fig} {ones₀ s₀ ones₁ s₁ ones s : List ℕ} {n₀ n₁ n : ℕ}
     → Done g ones₀ s₀ n₀ ones₁ s₁ n₁ → Done h ones₁ s₁ n₁ ones s n → Done (λ f. h (g f)) ones₀ s₀ n₀ ones s n
 then {g} {h} a b = record { same = b .same ∙ a .same; room = b .room ∙ a .room; sound = b .sound; is = b .is ∙ ap h (a .is) }
@@ -185,37 +194,37 @@ then {g} {h} a b = record { same = b .same ∙ a .same; room = b .room ∙ a .ro
 abbrev two : List ℕ → List ℕ → Fig
 two c s = record { cnt = c; singles = s }
 
-module _ {ones s : List ℕ} {n y k : ℕ} (h : Sound ones s n) (l : y < length ones) (e : k ≡ getD ones y 0 - 1) where
+module _ {ones left s : List ℕ} {n y k : ℕ} (h : Sound ones s n) (l : y < length ones) (a : Taken ones y left k) where
   pub lose-room : k ≡ 1 → n < length s
   lose-room o =
-      let a : In y (take n s) → ⊥ = absent (h .held) y (λ u. omega arith) in
-      omega (arith, h .room, room-left y (h .held) l a, length-take-le n s (h .used))
+      let b : In y (take n s) → ⊥ = absent (h .held) y (λ u. omega (arith, a .left)) in
+      omega (arith, h .room, room-left y (h .held) l b, length-take-le n s (h .used))
 
-  pub lose-done : {t : List ℕ} {r : ℕ} → Kept s t r (lose (take n s) y k) → Done (loseOne y) ones s n (set ones y k) t r
+  pub lose-done : {t : List ℕ} {r : ℕ} → Kept s t r (lose (take n s) y k) → Done (loseOne y) ones s n left t r
   unfolding loseOne
-  lose-done {t} {r} q = record {
+  lose-done {t} {r} q = rw (a .stored) (record {
     same = length-set ones y k;
     room = q .room;
     sound = record {
       room = q .room ∙ h .room ∙ sym (length-set ones y k);
       used = q .used;
-      held = subst (Held (set ones y k)) (sym (q .holds)) (lose-held (h .held) y l k e);
+      held = subst (Held (set ones y k)) (sym (q .holds)) (lose-held (h .held) y l k (a .left));
     };
-    is = ap₂ two (ap (set ones y) e) (q .holds ∙ ap (lose (take n s) y) e);
-  }
+    is = ap₂ two (ap (set ones y) (a .left)) (q .holds ∙ ap (lose (take n s) y) (a .left));
+  })
 
-  pub first-done : {t : List ℕ} {r : ℕ} → Kept s t r (loseFirst (take n s) y k) → Done (firstLoss y) ones s n (set ones y k) t r
+  pub first-done : {t : List ℕ} {r : ℕ} → Kept s t r (loseFirst (take n s) y k) → Done (firstLoss y) ones s n left t r
   unfolding firstLoss
-  first-done {t} {r} q = record {
+  first-done {t} {r} q = rw (a .stored) (record {
     same = length-set ones y k;
     room = q .room;
     sound = record {
       room = q .room ∙ h .room ∙ sym (length-set ones y k);
       used = q .used;
-      held = subst (Held (set ones y k)) (sym (q .holds)) (first-held (h .held) y k e);
+      held = subst (Held (set ones y k)) (sym (q .holds)) (first-held (h .held) y k (a .left));
     };
-    is = ap₂ two (ap (set ones y) e) (q .holds ∙ ap (loseFirst (take n s) y) e);
-  }
+    is = ap₂ two (ap (set ones y) (a .left)) (q .holds ∙ ap (loseFirst (take n s) y) (a .left));
+  })
 
 -- a row that was taken out has a place
 pub renew-room : {ones s t : List ℕ} {n y r : ℕ} → Sound ones s n → y < length ones → Kept s t r (swapRemove y (take n s)) → r < length t

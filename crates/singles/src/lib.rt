@@ -1,17 +1,17 @@
 // The list of singles in a lent slice, of which the first n are in use.
 ghost use mathlib.Core.Path.{_≡_};
-ghost use mathlib.Core.List.{List, [], _∷_, _++_};
-ghost use Prim.Native.Nat.{ℕ, _+_, _-_, _*_, _<_, _≤_};
-ghost use lib.ListN.{length, getD, take, drop};
+ghost use mathlib.Core.List.{[], _∷_, _++_};
+ghost use Prim.Native.Nat.{ℕ, _+_, _<_, _≤_};
+ghost use lib.ListN.{length, getD, take};
 ghost use lib.Dec.{eqb};
 ghost use Rattle.rule.specs.Lists.{filter};
-ghost use Rattle.rule.specs.Rule.{swapRemove, lose as losing, loseFirst, refresh as refreshing};
+ghost use Rattle.rule.specs.Rule.{swapRemove, lose as losing, loseFirst};
 ghost use Rattle.grid.specs.Grid.{bit, Under, Rows};
 ghost use Rattle.singles.specs.Facts.{Kept};
 ghost use Rattle.singles.specs.Figures.{Sound, Done, loseOne, firstLoss, renewOne, dropCol, dropCols, renew, shrunk};
 
 // The place of the first y among the first n, or n.
-pub fn place(s: &[usize], n: usize, y: usize) -> usize
+fn place(s: &[usize], n: usize, y: usize) -> usize
     requires { ⌜ n ≤ length (now s) ⌝ }
     ensures within { λ r. ⌜ r ≤ n ⌝ }
     ensures before { λ r. ⌜ ((k : ℕ) → k < r → getD (now (s .entry)) k 0 ≡ y → ⊥) ⌝ }
@@ -28,7 +28,7 @@ pub fn place(s: &[usize], n: usize, y: usize) -> usize
 }
 
 // y is taken out, if it is there, and the last one takes its place.
-pub fn take_out(s: &mut [usize], n: usize, y: usize) -> usize
+fn take_out(s: &mut [usize], n: usize, y: usize) -> usize
     requires { ⌜ n ≤ length (now s) ⌝ }
     ensures { λ r. ⌜ Kept (now (s .entry)) (now (s .exit)) r (swapRemove y (take n (now (s .entry)))) ⌝ }
 {
@@ -44,7 +44,7 @@ pub fn take_out(s: &mut [usize], n: usize, y: usize) -> usize
 }
 
 // y is put last.
-pub fn put_in(s: &mut [usize], n: usize, y: usize) -> usize
+fn put_in(s: &mut [usize], n: usize, y: usize) -> usize
     requires { ⌜ n < length (now s) ⌝ }
     ensures { λ r. ⌜ (Kept (now (s .entry)) (now (s .exit)) r (take n (now (s .entry)) ++ (y ∷ []))) × (r ≡ n + 1) ⌝ }
 {
@@ -77,20 +77,12 @@ fn lose_first(s: &mut [usize], n: usize, y: usize, k: usize) -> usize
     n
 }
 
-// One less, or 0.
-fn less(k: usize) -> usize
-    ensures { λ r. ⌜ r ≡ k - 1 ⌝ }
-{
-    if k > 0 { k - 1 } else { 0 }
-}
-
 // Row y loses a one.
 fn lose_one(ones: &mut [usize], s: &mut [usize], n: usize, y: usize) -> usize
     requires { ⌜ (Sound (now ones) (now s) n) × (y < length (now ones)) ⌝ }
     ensures { λ r. ⌜ Done (loseOne y) (now (ones .entry)) (now (s .entry)) n (now (ones .exit)) (now (s .exit)) r ⌝ }
 {
-    let k = less(ones[y]);
-    ones[y] = k;
+    let k = figures::take_one(ones, y);
     lose(s, n, y, k)
 }
 
@@ -99,17 +91,16 @@ fn first_loss(ones: &mut [usize], s: &mut [usize], n: usize, y: usize) -> usize
     requires { ⌜ (Sound (now ones) (now s) n) × (y < length (now ones)) ⌝ }
     ensures { λ r. ⌜ Done (firstLoss y) (now (ones .entry)) (now (s .entry)) n (now (ones .exit)) (now (s .exit)) r ⌝ }
 {
-    let k = less(ones[y]);
-    ones[y] = k;
+    let k = figures::take_one(ones, y);
     lose_first(s, n, y, k)
 }
 
-// Row y, which has ones[y], is taken out, and put in last if that is one.
+// Row y is taken out, and put in last if that is one.
 fn refresh(ones: &[usize], s: &mut [usize], n: usize, y: usize) -> usize
     requires { ⌜ (Sound (now ones) (now s) n) × (y < length (now ones)) ⌝ }
     ensures { λ r. ⌜ Done (renewOne y) (now (ones .entry)) (now (s .entry)) n (now (ones .entry)) (now (s .exit)) r ⌝ }
 {
-    let k = ones[y];
+    let k = figures::ones_of(ones, y);
     let m = take_out(s, n, y);
     if k == 1 {
         return put_in(s, m, y);
@@ -224,7 +215,7 @@ pub fn first_singles(e: &[usize], ones: &[usize], s: &mut [usize]) -> usize
     let mut k = 0;
     while k < e.len() {
         let y = e[k];
-        if ones[y] == 1 {
+        if figures::ones_of(ones, y) == 1 {
             n = put_in(s, n, y);
         }
         k += 1;

@@ -30,7 +30,8 @@ use Rattle.slab.specs.declared.Check.the-variants.{Pass, ShapeFails, Lis
 use Rattle.slab.specs.Blocks.{TwoRows}
 use Rattle.slab.specs.Placed.{Placed}
 use Rattle.slab.specs.Turns.{AllPlaced}
-use Rattle.slab.specs.Replay.{mostBytes, slabShaped, pickCheck, checked}
+use Rattle.bounds.specs.Bounds.{mostBytes}
+use Rattle.slab.specs.Replay.{slabShaped, pickCheck, checked}
 
 pub record Passed (m l t : ℕ) (ws : List ℕ) (b : Bool) (xs : List ℕ) (size : ℕ) : Type 0 where
   pub shape : Shape m l (length ws)

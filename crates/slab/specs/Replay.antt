@@ -3,7 +3,6 @@
 --   number             the number of an answer
 --   rowOf              the row in which a symbol is then read
 --   readBy             the answer of a replay that is done: symbols are read by the order, or in place where there is none
---   mostBytes          the most bytes of a symbol
 --   slabShaped         the bounds on the numbers, and the slab's size
 --   checked            the checks, in the order in which they refuse
 --   Outcome, outcome   an answer beside a slab
@@ -20,6 +19,7 @@ use mathlib.Core.List.{List}
 use Prim.Native.Nat.{ℕ, _*_}
 use lib.Dec.{leb, eqb}
 use lib.ListN.{length, getD}
+use Rattle.bounds.specs.Bounds.{mostBytes}
 use Rattle.oplist.specs.Listed.{opsOf}
 use Rattle.oplist.specs.Check.{shapeFine, listFine, orderFine, undoable}
 use Rattle.algebra.specs.Rows.{undo}
@@ -49,10 +49,6 @@ rowOf NotUndoable xs q = q
 abbrev pub readBy : Bool → Answer
 readBy true = ByOrder
 readBy false = InPlace
-
--- the most bytes of a symbol
-abbrev pub mostBytes : ℕ
-mostBytes = 65535
 
 -- n operations, and a slab of that many bytes
 unfoldable pub slabShaped : ℕ → ℕ → ℕ → ℕ → ℕ → Bool

@@ -4,11 +4,8 @@ ghost use mathlib.Core.Path.{_≡_};
 ghost use lib.ListN.{length};
 ghost use Rattle.slab.specs.Replay.{slabShaped, checked, Replayed, Undone};
 
-pub mod list;
+mod list;
 mod row;
-
-// The most bytes of a symbol.
-pub const MOST_BYTES: usize = 65535;
 
 // What replay and undo answer.
 pub enum Answer {
@@ -41,7 +38,7 @@ fn slab_shaped(m: usize, l: usize, t: usize, n: usize, size: usize) -> bool
     if t < 1 {
         return false;
     }
-    if MOST_BYTES < t {
+    if bounds::MOST_BYTES < t {
         return false;
     }
     size == m * t

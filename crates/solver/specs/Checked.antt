@@ -13,13 +13,12 @@ use native.Mathlib.Omega.{arith}
 use borrow.Author.Tests.{leb-true, eqb-true}
 use lib.Dec.{leb, eqb}
 use lib.ListN.{length}
-use Rattle.params.specs.Params.{mostRows, paramsOf}
+use Rattle.bounds.specs.Bounds.{mostRows, mostBytes, mostOps}
+use Rattle.params.specs.Params.{paramsOf}
 use Rattle.params.specs.Answers.{sized}
 use Rattle.params.specs.declared.Sizes.{Sizes}
 use Rattle.params.specs.declared.Parameters.the-variants.{Found, BadCount as NoEntry}
-use Rattle.oplist.specs.Check.{mostOps}
 use Rattle.oplist.specs.Facts.{and-left, and-right}
-use Rattle.slab.specs.Replay.{mostBytes}
 use Rattle.call.specs.declared.Shape.{Shape}
 use Rattle.answers.specs.declared.Answer.the-variants.{BadCount, BadShape, BadEntry, NoRoom}
 use Rattle.call.specs.Call.{Octets, octetsIn, rowsIn, Working, Buffers, buffers, outcome, shaped, entered, roomy, roomyFor, shapeOf, told, ended, checked, callOf}
@@ -74,11 +73,11 @@ tabled-none k g e =
     record { some = s .some-l; most = s .most-l; rows-fit = omega (arith, s .shh-upto-l); cols-fit = omega (arith, s .w-below-l) }
 
 module _ {g : Sizes} {h : ℕ} (q : Tabled g h) where
-  pub few-octets : (g .l ≤ 256) × (h ≤ 256)
+  pub few-octets : (g .l ≤ mostRows) × (h ≤ mostRows)
   few-octets = (q .most, omega (arith, q .most, q .rows-fit))
 
   module _ {m t list octets slab : ℕ} (bits : List ℕ) (s : Shaped (g .l) h m t list (length bits) octets slab) where
-    pub entering : (length bits ≡ m * g .l) × (g .s + h ≤ m) × (m ≤ 256) × (g .l ≤ 256)
+    pub entering : (length bits ≡ m * g .l) × (g .s + h ≤ m) × (m ≤ mostRows) × (g .l ≤ mostRows)
     entering = (s .bits-size, omega (arith, q .rows-fit, s .narrow), s .few, q .most)
 
   pub posed-is : {m t list slab : ℕ} (bits octets : List ℕ) → Shaped (g .l) h m t list (length bits) (length octets) slab → entered (g .l) (g .s) h bits ≡ true

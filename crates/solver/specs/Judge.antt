@@ -68,8 +68,8 @@ lengthsOf octets b =
       sizes = length (b .rooms .sizes);
     }
 
-abbrev pub roomyIn : ℕ → Rooms → Lengths → Bool
-roomyIn l r z = roomy l r (z .order) (z .vector) (z .work) (z .scratch) (z .columns) (z .rows) (z .ones) (z .degrees) (z .singles) (z .labels) (z .sizes)
+abbrev pub roomyIn : Rooms → Lengths → Bool
+roomyIn r z = roomy r (z .order) (z .vector) (z .work) (z .scratch) (z .columns) (z .rows) (z .ones) (z .degrees) (z .singles) (z .labels) (z .sizes)
 
 abbrev pub shapeIn : Sizes → ℕ → ℕ → Shape
 shapeIn g h m = record { m = m; l = g .l; s = g .s; h = h; w = g .w }
@@ -81,7 +81,7 @@ verdict shape entry room z n = cond shape (cond entry (cond room (Taken z n) (Re
 -- h octet rows in n bytes
 abbrev tests : Sizes → (h n m t : ℕ) → List ℕ → Lengths → Verdict
 tests g h n m t bits z =
-    verdict (shaped (g .l) h m t (z .list) (length bits) n (z .slab)) (entered (g .l) (g .s) h bits) (roomyIn (g .l) (roomsOf m (g .l)) z) (shapeIn g h m) n
+    verdict (shaped (g .l) h m t (z .list) (length bits) n (z .slab)) (entered (g .l) (g .s) h bits) (roomyIn (roomsOf m (g .l)) z) (shapeIn g h m) n
 
 abbrev byTable : Parameters → (m t : ℕ) → List ℕ → OctetRows → Lengths → Verdict
 byTable (Found g) m t bits o z = tests g (ifGiven o (g .h)) (ifGiven o (z .octets)) m t bits z
@@ -112,7 +112,7 @@ module _ (k m t : ℕ) (bits : List ℕ) (o : OctetRows) (z : Lengths) where
     entry = entered (g .l) (g .s) h bits
 
     abbrev room : Bool
-    room = roomyIn (g .l) (roomsOf m (g .l)) z
+    room = roomyIn (roomsOf m (g .l)) z
 
     abbrev by : Bool → Bool → Bool → Verdict
     by x y r = verdict x y r (shapeIn g h m) n
@@ -196,7 +196,7 @@ taken-upto k m t bits o l {z} {n} f = at (paramsOf k) f
 
     at : (p : Parameters) → Taken z n ≡ byTable p m t bits o l → n ≤ l .octets
     at NoEntry f = apart (sym f)
-    at (Found g) f = by (shapeIn g (ifGiven o (g .h)) m) (ifGiven o (l .octets)) (shaped (g .l) (ifGiven o (g .h)) m t (l .list) (length bits) (ifGiven o (l .octets)) (l .slab)) (entered (g .l) (g .s) (ifGiven o (g .h)) bits) (roomyIn (g .l) (roomsOf m (g .l)) l) f (given-upto o (l .octets))
+    at (Found g) f = by (shapeIn g (ifGiven o (g .h)) m) (ifGiven o (l .octets)) (shaped (g .l) (ifGiven o (g .h)) m t (l .list) (length bits) (ifGiven o (l .octets)) (l .slab)) (entered (g .l) (g .s) (ifGiven o (g .h)) bits) (roomyIn (roomsOf m (g .l)) l) f (given-upto o (l .octets))
 
 module _ (k m t : ℕ) (bits : List ℕ) (o : OctetRows) (octets : List ℕ) (b : Buffers) where
   abbrev call : Outcome
@@ -277,6 +277,6 @@ module _ (k m t : ℕ) (bits : List ℕ) (o : OctetRows) (octets : List ℕ) (b 
 
 -- the rooms that were asked are those of the formula
 pub rooms-tell : {x y : Bool} {r : Rooms} (l m order vector work scratch columns rows ones degrees singles labels sizes : ℕ) → r ≡ roomsOf m l
-    → x ≡ roomy l r order vector work scratch columns rows ones degrees singles labels sizes → x ≡ y
-    → roomy l (roomsOf m l) order vector work scratch columns rows ones degrees singles labels sizes ≡ y
+    → x ≡ roomy r order vector work scratch columns rows ones degrees singles labels sizes → x ≡ y
+    → roomy (roomsOf m l) order vector work scratch columns rows ones degrees singles labels sizes ≡ y
 rooms-tell l m order vector work scratch columns rows ones degrees singles labels sizes e f g = rw (sym e, sym f, g)

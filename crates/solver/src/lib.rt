@@ -69,7 +69,6 @@ fn judge(k: usize, m: usize, t: usize, bits: &[u8], which: OctetRows, n: Lengths
             }
             let need = answers::rooms_for(m, l);
             if !call::checks::has_room(
-                l,
                 need,
                 n.order,
                 n.vector,

@@ -2,6 +2,7 @@
 --   plain          the binary matrix, as lent
 --   Given          the matrix is one that the definition takes
 --   Stands         the slices hold a phase
+--   stands-one     slices that hold one phase are equal in what is in use, but for the figures of rows that were chosen
 -- Their parts, and what the rule asks of them:
 --   cols-long, rows-long     how many columns and rows there are: those of the steps, V's or the eligible ones, and the others
 --   cols-part, rows-part     V's columns and the eligible rows, as parts of the slices
@@ -28,7 +29,7 @@
 --   Standing                 the slices hold the phase after i steps
 -- Assumes nothing.
 use mathlib.Core.Path.{_≡_, refl, sym, ap, ap₂, subst, fun-ext, _∙_}
-use mathlib.Core.Logic.{_⊎_, inl, inr, ⊎-elim}
+use mathlib.Core.Logic.{inl, inr, ⊎-elim}
 use mathlib.Core.List.{List, [], _∷_, _++_, append-assoc}
 use mathlib.Core.Option.{Option, some}
 use Prim.Native.Nat.{ℕ, suc, _+_, _-_, _*_, _≤_, _<_}
@@ -54,11 +55,12 @@ use Rattle.phases.specs.Fit.{Fit, rows-below, cols-below, cols-once, less?}
 use Rattle.phases.specs.Fit as R
 use Rattle.phases.specs.Walk.{Walked, permitted, walked, cut-arranged, taken-walked}
 use Rattle.grid.specs.Grid.{bit, Under, Rows}
+use Rattle.singles.specs.Facts.{front-one}
 use Rattle.singles.specs.Figures.{Sound}
 use Rattle.singles.specs.Shrink.{Agree}
-use Rattle.labels.specs.Marking.{marksOf, Ready, zeros}
+use Rattle.labels.specs.Marking.{marksOf, Ready, zeros, marks-one}
 use Rattle.columns.specs.Sweep.{laid}
-use Rattle.choice.specs.Told.{told, least-told}
+use Rattle.figures.specs.Told.{told, least-told}
 use Rattle.choice.specs.Choose.{Ready as Asked}
 use Rattle.stepping.specs.Parts.{mid-is, mid-put, tail-is, rest-part, out-part}
 use Rattle.stepping.specs.Due.{Due, Shrunk, restOf, outOf, belowOf}
@@ -90,6 +92,23 @@ pub record Stands (z : Shape) (bits : List ℕ) (p : Phase) (c d ones s labels :
   pub ready : Ready labels next
   pub labelled : length labels ≡ z .n
   pub few : next + zeros labels ≤ z .n + z .n + 1
+
+pub stands-one : {z : Shape} {bits : List ℕ} {p : Phase} {c d ones s labels c′ d′ ones′ s′ labels′ : List ℕ} {i u n next i′ u′ n′ next′ : ℕ}
+    → Stands z bits p c d ones s labels i u n next → Stands z bits p c′ d′ ones′ s′ labels′ i′ u′ n′ next′
+    → (c ≡ c′) × (d ≡ d′) × (i ≡ i′) × (u ≡ u′) × (n ≡ n′) × (take n s ≡ take n′ s′) × (labels ≡ labels′) × (next ≡ next′) × ((y : ℕ) → In y (p .now .elig) → told ones y ≡ told ones′ y)
+stands-one {s = s} {s′ = s′} {n = n} {n′ = n′} p q =
+    let l = p .list ∙ sym (q .list) in
+    let m = marks-one (p .labelled ∙ sym (q .labelled)) (p .marks ∙ sym (q .marks)) in (
+      p .cols ∙ sym (q .cols),
+      p .rows ∙ sym (q .rows),
+      p .i-is ∙ sym (q .i-is),
+      p .u-is ∙ sym (q .u-is),
+      front-one s s′ n n′ (p .sound .used) (q .sound .used) l,
+      l,
+      m .0,
+      m .1,
+      λ y h. p .figures .is y h ∙ sym (q .figures .is y h),
+    )
 
 -- the first n of a list, as a slice has them
 first-part : (s : List ℕ) (n : ℕ) → take (n - 0) (drop 0 s) ≡ take n s
@@ -220,187 +239,189 @@ module _ {z : Shape} {bits : List ℕ} {p : Phase} {c d ones s labels : List ℕ
     pub x-fits : x * z .n + z .n ≤ length bits
     x-fits = row-fits x x-low
 
-    pub ones-is : getD ones x 0 ≡ count (bit (z .n) bits) (part i (z .n - u - i) c) x
-    ones-is = h .figures .is x (allowed .eligible) ∙ sym (ap (λ (v : List ℕ). count (bit (z .n) bits) v x) cols-part)
-
-    pub ones-some : 0 < getD ones x 0
-    unfolding bit
-    ones-some = omega (arith, allowed .least .positive, allowed .exactly, h .figures .is x (allowed .eligible))
-
     pub x-figured : x < length ones
     x-figured = omega (arith, x-low, h .long)
 
     pub part-under : Under (z .n) (part i (z .n - u - i) c)
     part-under = subst (Under (z .n)) (sym cols-part) cols-under
 
-    sizes : Kept (p .now .cols) (getD ones x 0) (arrange (bit (z .n) bits) (p .now .cols) x)
-    sizes = arranged-lengths (bit (z .n) bits) (p .now .cols) x (getD ones x 0) (h .figures .is x (allowed .eligible)) ones-some
+    -- r is its ones
+    module _ {r : ℕ} (ri : r ≡ told ones x) where
+      pub ones-is : r ≡ count (bit (z .n) bits) (part i (z .n - u - i) c) x
+      ones-is = ri ∙ h .figures .is x (allowed .eligible) ∙ sym (ap (λ (v : List ℕ). count (bit (z .n) bits) v x) cols-part)
 
-    pub cut-room : getD ones x 0 - 1 ≤ z .n - u - i
-    cut-room = omega (arith, cols-long, sizes .whole, sizes .gone)
-
-    pub u-next : u + (getD ones x 0 - 1) < 65536
-    u-next = omega (arith, cols-long, sizes .whole, sizes .gone, g .few, g .narrow)
-
-    pub i-next : i + 1 < 65536
-    i-next = omega (arith, cols-long, sizes .whole, g .few, g .narrow)
-
-    -- the columns and rows then
-    module _ {c′ d′ : List ℕ} (pd : d′ ≡ put i (z .m - z .h - i) d (x ∷ without x (part i (z .m - z .h - i) d)))
-        (pc : c′ ≡ put i (z .n - u - i) c (laid (arrange (bit (z .n) bits) (part i (z .n - u - i) c) x))) (ul : Under (z .n) (laid (arrange (bit (z .n) bits) (part i (z .n - u - i) c) x))) where
-      rows-now : d′ ≡ rows-of (p .steps) ++ ((x ∷ without x (p .now .elig)) ++ octet-rows z)
-      rows-now = pd ∙ ap₂ (λ (a b : List ℕ). put i (z .m - z .h - i) a (x ∷ without x b)) (h .rows) rows-part
-          ∙ mid-put (rows-of (p .steps)) (p .now .elig) (octet-rows z) (x ∷ without x (p .now .elig)) i (z .m - z .h - i) (h .i-is ∙ sym (length-rows-of (p .steps))) (omega (arith, rows-long))
-
-      cols-now : c′ ≡ pivots-of (p .steps) ++ (laid k ++ p .out)
+      pub ones-some : 0 < r
       unfolding bit
-      cols-now = pc ∙ ap₂ (λ (a b : List ℕ). put i (z .n - u - i) a (laid (arrange (one A) b x))) (h .cols) cols-part
-          ∙ mid-put (pivots-of (p .steps)) (p .now .cols) (p .out) (laid k) i (z .n - u - i) (h .i-is ∙ sym (length-pivots-of (p .steps))) (omega (arith, cols-long))
+      ones-some = omega (arith, allowed .least .positive, allowed .exactly, h .figures .is x (allowed .eligible), ri)
 
-      split : Removed x (p .now .elig) (without x (p .now .elig))
-      split = exchanged x (p .now .elig) rows-apart (allowed .eligible)
+      sizes : Kept (p .now .cols) r (arrange (bit (z .n) bits) (p .now .cols) x)
+      sizes = arranged-lengths (bit (z .n) bits) (p .now .cols) x r (ri ∙ h .figures .is x (allowed .eligible)) ones-some
 
-      long-below : suc (length (without x (p .now .elig))) ≡ length (p .now .elig)
-      long-below =
-          let a : length (x ∷ without x (p .now .elig)) ≤ length (p .now .elig) = sub-length (x ∷ without x (p .now .elig)) (p .now .elig) ((λ m. (split .from x m) .1 refl), split .once)
-          (λ y m. ⊎-elim (λ (q : y ≡ x). in-cast y x (p .now .elig) q (allowed .eligible)) (λ w. (split .from y w) .0) m) in
-          let b : length (p .now .elig) ≤ length (x ∷ without x (p .now .elig)) = sub-length (p .now .elig) (x ∷ without x (p .now .elig)) rows-apart
-          (λ y m. ⊎-elim (λ t. inl (eqb-true y x t)) (λ t. inr (split .kept y m (eqb-false y x t))) (bool-or (eqb y x))) in
-          omega arith
+      pub cut-room : r - 1 ≤ z .n - u - i
+      cut-room = omega (arith, cols-long, sizes .whole, sizes .gone)
 
-      pub rows-then : part i (z .m - z .h - i) d′ ≡ x ∷ without x (p .now .elig)
-      rows-then = ap (part i (z .m - z .h - i)) rows-now
-          ∙ mid-is (rows-of (p .steps)) (x ∷ without x (p .now .elig)) (octet-rows z) i (z .m - z .h - i) (h .i-is ∙ sym (length-rows-of (p .steps))) (omega (arith, rows-long, long-below))
+      pub u-next : u + (r - 1) < 65536
+      u-next = omega (arith, cols-long, sizes .whole, sizes .gone, g .few, g .narrow)
 
-      pub cols-then : part i (z .n - u - i) c′ ≡ laid k
-      unfolding bit
-      cols-then = ap (part i (z .n - u - i)) cols-now
-          ∙ mid-is (pivots-of (p .steps)) (laid k) (p .out) i (z .n - u - i) (h .i-is ∙ sym (length-pivots-of (p .steps))) (omega (arith, cols-long, sizes .whole, length-append (k .rest) (k .gone)))
+      pub i-next : i + 1 < 65536
+      i-next = omega (arith, cols-long, sizes .whole, g .few, g .narrow)
 
-      pub wide-now : length c′ ≡ length c
-      unfolding bit
-      wide-now =
-          let a : length c′ ≡ length (pivots-of (p .steps)) + (length (laid k) + length (p .out)) =
-          ap length cols-now ∙ length-append (pivots-of (p .steps)) (laid k ++ p .out) ∙ ap (λ (j : ℕ). length (pivots-of (p .steps)) + j) (length-append (laid k) (p .out)) in
-          omega (arith, cols-long, h .wide, h .i-is, h .u-is, length-pivots-of (p .steps), sizes .whole, length-append (k .rest) (k .gone))
+      -- the columns and rows then
+      module _ {c′ d′ : List ℕ} (pd : d′ ≡ put i (z .m - z .h - i) d (x ∷ without x (part i (z .m - z .h - i) d)))
+          (pc : c′ ≡ put i (z .n - u - i) c (laid (arrange (bit (z .n) bits) (part i (z .n - u - i) c) x))) (ul : Under (z .n) (laid (arrange (bit (z .n) bits) (part i (z .n - u - i) c) x))) where
+        rows-now : d′ ≡ rows-of (p .steps) ++ ((x ∷ without x (p .now .elig)) ++ octet-rows z)
+        rows-now = pd ∙ ap₂ (λ (a b : List ℕ). put i (z .m - z .h - i) a (x ∷ without x b)) (h .rows) rows-part
+            ∙ mid-put (rows-of (p .steps)) (p .now .elig) (octet-rows z) (x ∷ without x (p .now .elig)) i (z .m - z .h - i) (h .i-is ∙ sym (length-rows-of (p .steps))) (omega (arith, rows-long))
 
-      pub tall-now : length d′ ≡ length d
-      tall-now =
-          let a : length d′ ≡ length (rows-of (p .steps)) + (length (x ∷ without x (p .now .elig)) + length (octet-rows z)) =
-          ap length rows-now ∙ length-append (rows-of (p .steps)) ((x ∷ without x (p .now .elig)) ++ octet-rows z)
-          ∙ ap (λ (j : ℕ). length (rows-of (p .steps)) + j) (length-append (x ∷ without x (p .now .elig)) (octet-rows z)) in
-          omega (arith, rows-long, h .tall, h .i-is, length-rows-of (p .steps), long-below, length-range (z .s) (z .h))
-
-      pub bounds-now : (i ≤ z .n - u) × (z .n - u ≤ length c′) × (i ≤ z .m - z .h) × (z .m - z .h ≤ length d′)
-      bounds-now = (bounds .0, omega (arith, wide-now, bounds .1), bounds .2, omega (arith, tall-now, bounds .3))
-
-      pub cut-at : z .n - u - i - (getD ones x 0 - 1) ≡ suc (length (k .rest))
-      unfolding bit
-      cut-at = omega (arith, cols-long, sizes .rest)
-
-      abbrev kk : ℕ
-      kk = z .n - u - i - (getD ones x 0 - 1)
-
-      in-either-way : (y : ℕ) → In y (x ∷ without x (p .now .elig)) → In y (p .now .elig)
-      in-either-way y m = ⊎-elim (λ (q : y ≡ x). in-cast y x (p .now .elig) q (allowed .eligible)) (λ w. (split .from y w) .0) m
-
-      agrees : Agree (count (bit (z .n) bits) (k .pivot ∷ (k .gone ++ k .rest))) (x ∷ without x (p .now .elig)) ones
-      unfolding bit
-      agrees = record {
-        low = λ y m. h .figures .low y (in-either-way y m);
-        is = λ y m. h .figures .is y (in-either-way y m) ∙ set-out .same (one A y);
-      }
-
-      rest-is : restOf kk (laid k) ≡ k .rest
-      rest-is = rest-part (k .pivot) (k .rest) (k .gone) kk cut-at
-
-      out-is : outOf kk (laid k) ≡ k .gone
-      out-is = out-part (k .pivot) (k .rest) (k .gone) kk cut-at
-
-      below-is : belowOf (x ∷ without x (p .now .elig)) ≡ without x (p .now .elig)
-      below-is = tail-is x (without x (p .now .elig)) (length (x ∷ without x (p .now .elig))) refl
-
-      due-here : Due (z .n) bits x kk (laid k) (x ∷ without x (p .now .elig)) ones s n labels next
-      unfolding bit
-      due-here = record {
-        low = omega (arith, cut-at);
-        high = omega (arith, cut-at, length-append (k .rest) (k .gone));
-        columns = subst (λ (v : List ℕ). Under (z .n) (laid (arrange (one A) v x))) cols-part ul;
-        rows = rows-of-list (x ∷ without x (p .now .elig)) (λ y m. row-low y (in-either-way y m));
-        figured = under-of (x ∷ without x (p .now .elig)) (λ y m. h .figures .low y (in-either-way y m));
-        first = ap (λ (b : List ℕ). x ∷ b) (sym below-is);
-        apart = ((λ m. (split .from x m) .1 refl), split .once);
-        agree = subst (λ (b : List ℕ). Agree (count (one A) (k .pivot ∷ (b ++ restOf kk (laid k)))) (x ∷ without x (p .now .elig)) ones) (sym out-is)
-            (subst (λ (b : List ℕ). Agree (count (one A) (k .pivot ∷ (k .gone ++ b))) (x ∷ without x (p .now .elig)) ones) (sym rest-is) agrees);
-        one = set-out .front;
-        sound = h .sound;
-        ready = h .ready;
-        wide = omega (arith, h .labelled);
-      }
-
-      pub due-then : Due (z .n) bits x kk (part i (z .n - u - i) c′) (part i (z .m - z .h - i) d′) ones s n labels next
-      due-then = subst (λ (v : List ℕ). Due (z .n) bits x kk v (part i (z .m - z .h - i) d′) ones s n labels next) (sym cols-then)
-          (subst (λ (b : List ℕ). Due (z .n) bits x kk (laid k) b ones s n labels next) (sym rows-then) due-here)
-
-      module _ {ones′ s′ labels′ : List ℕ} {n′ next′ : ℕ}
-          (q : Shrunk (bit (z .n) bits) x kk (part i (z .n - u - i) c′) (part i (z .m - z .h - i) d′) ones s n labels next ones′ s′ n′ labels′ next′) where
-        q₀ : Shrunk (bit (z .n) bits) x kk (laid k) (x ∷ without x (p .now .elig)) ones s n labels next ones′ s′ n′ labels′ next′
-        q₀ = subst (λ (b : List ℕ). Shrunk (bit (z .n) bits) x kk (laid k) b ones s n labels next ones′ s′ n′ labels′ next′) rows-then
-            (subst (λ (v : List ℕ). Shrunk (bit (z .n) bits) x kk v (part i (z .m - z .h - i) d′) ones s n labels next ones′ s′ n′ labels′ next′) cols-then q)
-
-        singles-now : take n′ s′ ≡ nextSingles (one A) (k .rest) x (without x (p .now .elig)) (k .pivot) (k .gone) (p .now .singles)
+        cols-now : c′ ≡ pivots-of (p .steps) ++ (laid k ++ p .out)
         unfolding bit
-        singles-now = q₀ .singles
-            ∙ ap (λ (a : List ℕ). nextSingles (one A) a x (belowOf (x ∷ without x (p .now .elig))) (k .pivot) (outOf kk (laid k)) (take n s)) rest-is
-            ∙ ap (λ (a : List ℕ). nextSingles (one A) (k .rest) x a (k .pivot) (outOf kk (laid k)) (take n s)) below-is
-            ∙ ap (λ (a : List ℕ). nextSingles (one A) (k .rest) x (without x (p .now .elig)) (k .pivot) a (take n s)) out-is
-            ∙ ap (nextSingles (one A) (k .rest) x (without x (p .now .elig)) (k .pivot) (k .gone)) (h .list)
+        cols-now = pc ∙ ap₂ (λ (a b : List ℕ). put i (z .n - u - i) a (laid (arrange (one A) b x))) (h .cols) cols-part
+            ∙ mid-put (pivots-of (p .steps)) (p .now .cols) (p .out) (laid k) i (z .n - u - i) (h .i-is ∙ sym (length-pivots-of (p .steps))) (omega (arith, cols-long))
 
-        marks-now : marksOf labels′ next′ ≡ addPairs (one A) (k .rest) (p .now .marks) (noted (one A) (k .rest) (without x (p .now .elig)) (k .pivot ∷ k .gone))
+        split : Removed x (p .now .elig) (without x (p .now .elig))
+        split = exchanged x (p .now .elig) rows-apart (allowed .eligible)
+
+        long-below : suc (length (without x (p .now .elig))) ≡ length (p .now .elig)
+        long-below =
+            let a : length (x ∷ without x (p .now .elig)) ≤ length (p .now .elig) = sub-length (x ∷ without x (p .now .elig)) (p .now .elig) ((λ m. (split .from x m) .1 refl), split .once)
+            (λ y m. ⊎-elim (λ (q : y ≡ x). in-cast y x (p .now .elig) q (allowed .eligible)) (λ w. (split .from y w) .0) m) in
+            let b : length (p .now .elig) ≤ length (x ∷ without x (p .now .elig)) = sub-length (p .now .elig) (x ∷ without x (p .now .elig)) rows-apart
+            (λ y m. ⊎-elim (λ t. inl (eqb-true y x t)) (λ t. inr (split .kept y m (eqb-false y x t))) (bool-or (eqb y x))) in
+            omega arith
+
+        pub rows-then : part i (z .m - z .h - i) d′ ≡ x ∷ without x (p .now .elig)
+        rows-then = ap (part i (z .m - z .h - i)) rows-now
+            ∙ mid-is (rows-of (p .steps)) (x ∷ without x (p .now .elig)) (octet-rows z) i (z .m - z .h - i) (h .i-is ∙ sym (length-rows-of (p .steps))) (omega (arith, rows-long, long-below))
+
+        pub cols-then : part i (z .n - u - i) c′ ≡ laid k
         unfolding bit
-        marks-now = q₀ .marks
-            ∙ ap (λ (a : List ℕ). addPairs (one A) a (marksOf labels next) (noted (one A) a (belowOf (x ∷ without x (p .now .elig))) (k .pivot ∷ outOf kk (laid k)))) rest-is
-            ∙ ap (λ (a : List ℕ). addPairs (one A) (k .rest) (marksOf labels next) (noted (one A) (k .rest) a (k .pivot ∷ outOf kk (laid k)))) below-is
-            ∙ ap (λ (a : List ℕ). addPairs (one A) (k .rest) (marksOf labels next) (noted (one A) (k .rest) (without x (p .now .elig)) (k .pivot ∷ a))) out-is
-            ∙ ap (λ (m : Marks). addPairs (one A) (k .rest) m (noted (one A) (k .rest) (without x (p .now .elig)) (k .pivot ∷ k .gone))) (h .marks)
+        cols-then = ap (part i (z .n - u - i)) cols-now
+            ∙ mid-is (pivots-of (p .steps)) (laid k) (p .out) i (z .n - u - i) (h .i-is ∙ sym (length-pivots-of (p .steps))) (omega (arith, cols-long, sizes .whole, length-append (k .rest) (k .gone)))
 
-        figures-now : Agree (count (bit (z .n) bits) (k .rest)) (without x (p .now .elig)) ones′
-        figures-now = subst (λ (b : List ℕ). Agree (count (bit (z .n) bits) (k .rest)) b ones′) below-is
-            (subst (λ (a : List ℕ). Agree (count (bit (z .n) bits) a) (belowOf (x ∷ without x (p .now .elig))) ones′) rest-is (q₀ .figures))
+        pub wide-now : length c′ ≡ length c
+        unfolding bit
+        wide-now =
+            let a : length c′ ≡ length (pivots-of (p .steps)) + (length (laid k) + length (p .out)) =
+            ap length cols-now ∙ length-append (pivots-of (p .steps)) (laid k ++ p .out) ∙ ap (λ (j : ℕ). length (pivots-of (p .steps)) + j) (length-append (laid k) (p .out)) in
+            omega (arith, cols-long, h .wide, h .i-is, h .u-is, length-pivots-of (p .steps), sizes .whole, length-append (k .rest) (k .gone))
 
-        new : Step
-        new = record { row = x; pivot = k .pivot; under = without x (p .now .elig) ++ octet-rows z; left = k .rest }
+        pub tall-now : length d′ ≡ length d
+        tall-now =
+            let a : length d′ ≡ length (rows-of (p .steps)) + (length (x ∷ without x (p .now .elig)) + length (octet-rows z)) =
+            ap length rows-now ∙ length-append (rows-of (p .steps)) ((x ∷ without x (p .now .elig)) ++ octet-rows z)
+            ∙ ap (λ (j : ℕ). length (rows-of (p .steps)) + j) (length-append (x ∷ without x (p .now .elig)) (octet-rows z)) in
+            omega (arith, rows-long, h .tall, h .i-is, length-rows-of (p .steps), long-below, length-range (z .s) (z .h))
 
-        cols-next : c′ ≡ pivots-of (p .steps ++ (new ∷ [])) ++ (k .rest ++ (k .gone ++ p .out))
-        unfolding new
-        cols-next = cols-now ∙ ap (λ (b : List ℕ). pivots-of (p .steps) ++ (k .pivot ∷ b)) (append-assoc (k .rest) (k .gone) (p .out))
-            ∙ sym (append-assoc (pivots-of (p .steps)) (k .pivot ∷ []) (k .rest ++ (k .gone ++ p .out)))
-            ∙ ap (λ (b : List ℕ). b ++ (k .rest ++ (k .gone ++ p .out))) (sym (pivots-join (p .steps) (new ∷ [])))
+        pub bounds-now : (i ≤ z .n - u) × (z .n - u ≤ length c′) × (i ≤ z .m - z .h) × (z .m - z .h ≤ length d′)
+        bounds-now = (bounds .0, omega (arith, wide-now, bounds .1), bounds .2, omega (arith, tall-now, bounds .3))
 
-        rows-next : d′ ≡ rows-of (p .steps ++ (new ∷ [])) ++ (without x (p .now .elig) ++ octet-rows z)
-        unfolding new
-        rows-next = rows-now ∙ sym (append-assoc (rows-of (p .steps)) (x ∷ []) (without x (p .now .elig) ++ octet-rows z))
-            ∙ ap (λ (b : List ℕ). b ++ (without x (p .now .elig) ++ octet-rows z)) (sym (rows-join (p .steps) (new ∷ [])))
+        pub cut-at : z .n - u - i - (r - 1) ≡ suc (length (k .rest))
+        unfolding bit
+        cut-at = omega (arith, cols-long, sizes .rest)
 
-        pub stands-next : Stands z bits (taken A z p x) c′ d′ ones′ s′ labels′ (i + 1) (u + (getD ones x 0 - 1)) n′ next′
-        unfolding bit new
-        stands-next = record {
-          walked = taken-walked z A (g .fit) p (h .walked) x e;
-          cols = cols-next;
-          rows = rows-next;
-          wide = wide-now ∙ h .wide;
-          tall = tall-now ∙ h .tall;
-          i-is = omega (arith, h .i-is, length-append (p .steps) (new ∷ []));
-          u-is = omega (arith, h .u-is, sizes .gone, length-append (k .gone) (p .out));
-          figures = figures-now;
-          long = q .long ∙ h .long;
-          sound = q .sound;
-          list = singles-now;
-          marks = marks-now;
-          ready = q .ready;
-          labelled = q .kept ∙ h .labelled;
-          few = omega (arith, q .few, h .few);
+        abbrev kk : ℕ
+        kk = z .n - u - i - (r - 1)
+
+        in-either-way : (y : ℕ) → In y (x ∷ without x (p .now .elig)) → In y (p .now .elig)
+        in-either-way y m = ⊎-elim (λ (q : y ≡ x). in-cast y x (p .now .elig) q (allowed .eligible)) (λ w. (split .from y w) .0) m
+
+        agrees : Agree (count (bit (z .n) bits) (k .pivot ∷ (k .gone ++ k .rest))) (x ∷ without x (p .now .elig)) ones
+        unfolding bit
+        agrees = record {
+          low = λ y m. h .figures .low y (in-either-way y m);
+          is = λ y m. h .figures .is y (in-either-way y m) ∙ set-out .same (one A y);
         }
+
+        rest-is : restOf kk (laid k) ≡ k .rest
+        rest-is = rest-part (k .pivot) (k .rest) (k .gone) kk cut-at
+
+        out-is : outOf kk (laid k) ≡ k .gone
+        out-is = out-part (k .pivot) (k .rest) (k .gone) kk cut-at
+
+        below-is : belowOf (x ∷ without x (p .now .elig)) ≡ without x (p .now .elig)
+        below-is = tail-is x (without x (p .now .elig)) (length (x ∷ without x (p .now .elig))) refl
+
+        due-here : Due (z .n) bits x kk (laid k) (x ∷ without x (p .now .elig)) ones s n labels next
+        unfolding bit
+        due-here = record {
+          low = omega (arith, cut-at);
+          high = omega (arith, cut-at, length-append (k .rest) (k .gone));
+          columns = subst (λ (v : List ℕ). Under (z .n) (laid (arrange (one A) v x))) cols-part ul;
+          rows = rows-of-list (x ∷ without x (p .now .elig)) (λ y m. row-low y (in-either-way y m));
+          figured = under-of (x ∷ without x (p .now .elig)) (λ y m. h .figures .low y (in-either-way y m));
+          first = ap (λ (b : List ℕ). x ∷ b) (sym below-is);
+          apart = ((λ m. (split .from x m) .1 refl), split .once);
+          agree = subst (λ (b : List ℕ). Agree (count (one A) (k .pivot ∷ (b ++ restOf kk (laid k)))) (x ∷ without x (p .now .elig)) ones) (sym out-is)
+              (subst (λ (b : List ℕ). Agree (count (one A) (k .pivot ∷ (k .gone ++ b))) (x ∷ without x (p .now .elig)) ones) (sym rest-is) agrees);
+          one = set-out .front;
+          sound = h .sound;
+          ready = h .ready;
+          wide = omega (arith, h .labelled);
+        }
+
+        pub due-then : Due (z .n) bits x kk (part i (z .n - u - i) c′) (part i (z .m - z .h - i) d′) ones s n labels next
+        due-then = subst (λ (v : List ℕ). Due (z .n) bits x kk v (part i (z .m - z .h - i) d′) ones s n labels next) (sym cols-then)
+            (subst (λ (b : List ℕ). Due (z .n) bits x kk (laid k) b ones s n labels next) (sym rows-then) due-here)
+
+        module _ {ones′ s′ labels′ : List ℕ} {n′ next′ : ℕ}
+            (q : Shrunk (bit (z .n) bits) x kk (part i (z .n - u - i) c′) (part i (z .m - z .h - i) d′) ones s n labels next ones′ s′ n′ labels′ next′) where
+          q₀ : Shrunk (bit (z .n) bits) x kk (laid k) (x ∷ without x (p .now .elig)) ones s n labels next ones′ s′ n′ labels′ next′
+          q₀ = subst (λ (b : List ℕ). Shrunk (bit (z .n) bits) x kk (laid k) b ones s n labels next ones′ s′ n′ labels′ next′) rows-then
+              (subst (λ (v : List ℕ). Shrunk (bit (z .n) bits) x kk v (part i (z .m - z .h - i) d′) ones s n labels next ones′ s′ n′ labels′ next′) cols-then q)
+
+          singles-now : take n′ s′ ≡ nextSingles (one A) (k .rest) x (without x (p .now .elig)) (k .pivot) (k .gone) (p .now .singles)
+          unfolding bit
+          singles-now = q₀ .singles
+              ∙ ap (λ (a : List ℕ). nextSingles (one A) a x (belowOf (x ∷ without x (p .now .elig))) (k .pivot) (outOf kk (laid k)) (take n s)) rest-is
+              ∙ ap (λ (a : List ℕ). nextSingles (one A) (k .rest) x a (k .pivot) (outOf kk (laid k)) (take n s)) below-is
+              ∙ ap (λ (a : List ℕ). nextSingles (one A) (k .rest) x (without x (p .now .elig)) (k .pivot) a (take n s)) out-is
+              ∙ ap (nextSingles (one A) (k .rest) x (without x (p .now .elig)) (k .pivot) (k .gone)) (h .list)
+
+          marks-now : marksOf labels′ next′ ≡ addPairs (one A) (k .rest) (p .now .marks) (noted (one A) (k .rest) (without x (p .now .elig)) (k .pivot ∷ k .gone))
+          unfolding bit
+          marks-now = q₀ .marks
+              ∙ ap (λ (a : List ℕ). addPairs (one A) a (marksOf labels next) (noted (one A) a (belowOf (x ∷ without x (p .now .elig))) (k .pivot ∷ outOf kk (laid k)))) rest-is
+              ∙ ap (λ (a : List ℕ). addPairs (one A) (k .rest) (marksOf labels next) (noted (one A) (k .rest) a (k .pivot ∷ outOf kk (laid k)))) below-is
+              ∙ ap (λ (a : List ℕ). addPairs (one A) (k .rest) (marksOf labels next) (noted (one A) (k .rest) (without x (p .now .elig)) (k .pivot ∷ a))) out-is
+              ∙ ap (λ (m : Marks). addPairs (one A) (k .rest) m (noted (one A) (k .rest) (without x (p .now .elig)) (k .pivot ∷ k .gone))) (h .marks)
+
+          figures-now : Agree (count (bit (z .n) bits) (k .rest)) (without x (p .now .elig)) ones′
+          figures-now = subst (λ (b : List ℕ). Agree (count (bit (z .n) bits) (k .rest)) b ones′) below-is
+              (subst (λ (a : List ℕ). Agree (count (bit (z .n) bits) a) (belowOf (x ∷ without x (p .now .elig))) ones′) rest-is (q₀ .figures))
+
+          new : Step
+          new = record { row = x; pivot = k .pivot; under = without x (p .now .elig) ++ octet-rows z; left = k .rest }
+
+          cols-next : c′ ≡ pivots-of (p .steps ++ (new ∷ [])) ++ (k .rest ++ (k .gone ++ p .out))
+          unfolding new
+          cols-next = cols-now ∙ ap (λ (b : List ℕ). pivots-of (p .steps) ++ (k .pivot ∷ b)) (append-assoc (k .rest) (k .gone) (p .out))
+              ∙ sym (append-assoc (pivots-of (p .steps)) (k .pivot ∷ []) (k .rest ++ (k .gone ++ p .out)))
+              ∙ ap (λ (b : List ℕ). b ++ (k .rest ++ (k .gone ++ p .out))) (sym (pivots-join (p .steps) (new ∷ [])))
+
+          rows-next : d′ ≡ rows-of (p .steps ++ (new ∷ [])) ++ (without x (p .now .elig) ++ octet-rows z)
+          unfolding new
+          rows-next = rows-now ∙ sym (append-assoc (rows-of (p .steps)) (x ∷ []) (without x (p .now .elig) ++ octet-rows z))
+              ∙ ap (λ (b : List ℕ). b ++ (without x (p .now .elig) ++ octet-rows z)) (sym (rows-join (p .steps) (new ∷ [])))
+
+          pub stands-next : Stands z bits (taken A z p x) c′ d′ ones′ s′ labels′ (i + 1) (u + (r - 1)) n′ next′
+          unfolding bit new
+          stands-next = record {
+            walked = taken-walked z A (g .fit) p (h .walked) x e;
+            cols = cols-next;
+            rows = rows-next;
+            wide = wide-now ∙ h .wide;
+            tall = tall-now ∙ h .tall;
+            i-is = omega (arith, h .i-is, length-append (p .steps) (new ∷ []));
+            u-is = omega (arith, h .u-is, sizes .gone, length-append (k .gone) (p .out));
+            figures = figures-now;
+            long = q .long ∙ h .long;
+            sound = q .sound;
+            list = singles-now;
+            marks = marks-now;
+            ready = q .ready;
+            labelled = q .kept ∙ h .labelled;
+            few = omega (arith, q .few, h .few);
+          }
 
 abbrev pub At : (z : Shape) → List ℕ → ℕ → Phase
 At z bits k = phase-after (plain (z .n) bits) z k

@@ -1,6 +1,6 @@
-// One step of phase one over lent slices, and the loop of steps.
+// One step of phase one over lent slices.
 ghost use mathlib.Core.Path.{_≡_};
-ghost use mathlib.Core.List.{List, _∷_};
+ghost use mathlib.Core.List.{_∷_};
 ghost use Prim.Native.Nat.{ℕ, _+_, _-_, _*_, _≤_, _<_};
 ghost use lib.ListN.{length};
 ghost use Rattle.loops.specs.Part.{part, put};
@@ -10,7 +10,7 @@ ghost use Rattle.rule.specs.Rule.{without, arrange};
 ghost use Rattle.grid.specs.Grid.{bit, Under};
 ghost use Rattle.columns.specs.Sweep.{laid};
 ghost use mathlib.Core.Option.{some};
-ghost use Rattle.choice.specs.Told.{told};
+ghost use Rattle.figures.specs.Told.{told};
 ghost use Rattle.phases.specs.One.{degree};
 ghost use Rattle.stepping.specs.Due.{Due, Shrunk};
 ghost use Rattle.stepping.specs.Stands.{plain, Given, Standing, rowAt};
@@ -114,7 +114,7 @@ fn step(
     let i = st.i;
     let e = l - st.u;
     let top = z.m - z.h;
-    let r = ones[x];
+    let r = figures::ones_of(ones, x);
     places(bits, l, x, r, i, e, top, c, d);
     let k = e - i - (r - 1);
     let t = Ties {
@@ -153,7 +153,7 @@ pub fn turn(
     let e = l - st.u;
     let top = z.m - z.h;
     let n = st.singles;
-    let least = choice::least_positive(&d[i..top], ones);
+    let least = figures::least_positive(&d[i..top], ones);
     let chosen = choice::choose(
         bits,
         l,

@@ -17,7 +17,8 @@ use native.Mathlib.Omega.{arith}
 use borrow.Author.Tests.{leb-true, le-leb}
 use lib.Dec.{leb}
 use lib.ListN.{length, drop, length-drop}
-use Rattle.oplist.specs.Check.{mostOps, shapeFine, listFine, orderFine}
+use Rattle.bounds.specs.Bounds.{mostOps}
+use Rattle.oplist.specs.Check.{shapeFine, listFine, orderFine}
 use Rattle.oplist.specs.Facts.{and-left, and-right, shapeFine-shape}
 use Rattle.stored.specs.declared.Reading.the-variants as read
 use Rattle.stored.specs.declared.Written.the-variants as written

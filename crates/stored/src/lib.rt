@@ -37,12 +37,14 @@ pub enum Written {
     BadList,
 }
 
+// The same number, as a usize.
 fn wide(x: u8) -> usize
     ensures { λ r. ⌜ (r ≡ x) × (r < 256) ⌝ }
 {
     x as usize
 }
 
+// The same number, in 64 bits.
 fn wide64(x: u8) -> u64
     ensures { λ r. ⌜ (r ≡ x) × (r < 256) ⌝ }
 {
@@ -78,6 +80,7 @@ pub fn order_size(ordered: bool, l: usize) -> usize
     0
 }
 
+// Whether the unused byte of the operation at a place, if its kind has one, is zero.
 fn unused_at(form: &[u8], at: usize) -> bool
     requires { ⌜ at + 3 < length (now form) ⌝ }
     ensures { λ r. ⌜ r ≡ unusedAt (now (form .entry)) at ⌝ }
@@ -92,6 +95,7 @@ fn unused_at(form: &[u8], at: usize) -> bool
     true
 }
 
+// Whether the unused bytes of the first n operations are zeros.
 fn unused_fine(form: &[u8], n: usize) -> bool
     requires { ⌜ 13 + 4 * n ≤ length (now form) ⌝ }
     ensures { λ r. ⌜ r ≡ unusedFine (now (form .entry)) 13 n ⌝ }
@@ -136,6 +140,7 @@ fn form_fine(form: &[u8]) -> bool
     unused_fine(form, n)
 }
 
+// The word of the operation at a place.
 fn word_at(form: &[u8], at: usize) -> u64
     requires { ⌜ at + 3 < length (now form) ⌝ }
     ensures { λ r. ⌜ r ≡ wordAt (now (form .entry)) at ⌝ }
@@ -146,6 +151,7 @@ fn word_at(form: &[u8], at: usize) -> u64
         + wide64(form[at + 2])
 }
 
+// Whether the first n operations pass the checks for m rows.
 fn words_fine(m: usize, form: &[u8], n: usize) -> bool
     requires { ⌜ 13 + 4 * n ≤ length (now form) ⌝ }
     ensures { λ r. ⌜ r ≡ listFine m (wordsAt (now (form .entry)) 13 n) ⌝ }
@@ -174,6 +180,7 @@ fn stands(entries: &[u8], from: usize, x: u8) -> bool
     false
 }
 
+// Whether the entries are different rows of m.
 fn rows_fine(m: usize, entries: &[u8]) -> bool
     ensures { λ r. ⌜ r ≡ rowsFine m (now (entries .entry)) ⌝ }
 {
@@ -191,6 +198,7 @@ fn rows_fine(m: usize, entries: &[u8]) -> bool
     true
 }
 
+// Whether the order, if there is one, passes its checks.
 fn order_fine(m: usize, l: usize, ordered: bool, order: &[u8]) -> bool
     ensures { λ r. ⌜ r ≡ orderFine m l ordered (now (order .entry)) ⌝ }
 {
@@ -277,6 +285,7 @@ fn fill_list(form: &[u8], n: usize, list: &mut [u64])
     }
 }
 
+// Entry i of the order, or 0 beyond its end.
 fn entry_or_zero(order: &[u8], i: usize) -> usize
     ensures { λ r. ⌜ r ≡ getD (now (order .entry)) i 0 ⌝ }
 {
@@ -354,12 +363,14 @@ fn judge_list(
     Written::Done(need)
 }
 
+// The lowest byte of a word.
 fn low(x: u64) -> u8
     ensures { λ r. ⌜ r ≡ x % 256 ⌝ }
 {
     (x % 256) as u8
 }
 
+// The lowest byte of a number.
 fn low_byte(x: usize) -> u8
     ensures { λ r. ⌜ r ≡ x % 256 ⌝ }
 {

@@ -14,7 +14,7 @@ use Rattle.params.specs.Table.{table}
 use Rattle.systems.specs.declared.told.Read.the-variants.{Case}
 use Rattle.systems.specs.Text.{linesIn, startsWith, digitsOf, numberOf}
 use Rattle.systems.specs.Digits.{nibbleOf, areDigits, bytesOf, bitsIn, clear, isRow, isBytes}
-use Rattle.systems.specs.Lined.{columnsOf, headOf, placed, rowOn, lineOf, system, Buffers, buffers}
+use Rattle.systems.specs.Lined.{columnsOf, headOf, placed, rowOn, onlyIf, lineOf, system, Buffers, buffers}
 use Rattle.systems.specs.Cases.{rowsOf, linesOf, casesOf, readOf, outcome, place}
 
 abbrev pub text : List ℕ
@@ -28,6 +28,6 @@ before = buffers (replicate 28 7) (7 ∷ []) (7 ∷ 7 ∷ [])
 abbrev pub after : Buffers
 after = buffers (1 ∷ replicate 25 0 ++ (1 ∷ 7 ∷ [])) (7 ∷ []) (15 ∷ 7 ∷ [])
 
-pub example-read : readOf text 0 before ≡ outcome (Case (system 10 false 1 1 27 27 0 1) (place 0 6 39)) after
-unfolding readOf casesOf linesOf rowsOf linesIn startsWith digitsOf numberOf nibbleOf areDigits bytesOf bitsIn clear isRow isBytes columnsOf headOf placed rowOn lineOf put paramsOf answer first table
+pub example-read : readOf text 0 before ≡ outcome (Case (system 10 false 1 1 27 27 0 1 false) (place 0 6 39)) after
+unfolding readOf casesOf linesOf rowsOf linesIn startsWith digitsOf numberOf nibbleOf areDigits bytesOf bitsIn clear isRow isBytes columnsOf headOf placed rowOn onlyIf lineOf put paramsOf answer first table
 example-read = refl

@@ -7,7 +7,9 @@
 --   headOf line      what a `sys` line begins
 --   Filled, filled   what a row's line does to a case, beside the buffer that it fills
 --   placed, rowOn    entries that are put into a buffer, and a row of them
---   bitsTo, octetsTo, slabTo   a case with another number of bits, of octets, of slab bytes
+--   onlyIf           a line that may stand only where something is so
+--   bitsTo, octetsTo   a case with another number of bits, of octets
+--   slabTo           a case with so many slab bytes, whose slab is no longer due
 --   bitsOn, octetsOn, slabOn   what the digits of a `b`, an `o`, an `s` line do
 --   Buffers, Turned  the three buffers; what a line does to a case, beside them;  buffers, turned   these from their parts
 --   inBits, inOctets, inSlab   what a row's line does, beside all three buffers: it fills that one
@@ -15,7 +17,7 @@
 --   head-none        a `sys` line that goes wrong at its word
 --   head-first, head-second, head-third, head-fourth   one that goes wrong at a number
 --   head-long, head-flag, head-is   one that goes on after the numbers, one whose flag is above 1, and one that does not go wrong
---   placed-full, placed-bad, placed-in, row-none, row-some   the tests of a row
+--   placed-full, placed-bad, placed-in, row-none, row-some, only-not, only-so   the tests of a row
 --   part-long   how long a part of a buffer is, as the checker has it
 --   line-bits, line-octets, line-slab, line-size, line-go, line-other   the kinds of a line
 -- Assumes nothing.
@@ -67,8 +69,9 @@ columnsIn BadCount = 0
 unfoldable pub columnsOf : ℕ → ℕ
 columnsOf k = columnsIn (paramsOf k)
 
-abbrev pub system : (k : ℕ) → Bool → (m t l bits octets slab : ℕ) → System
-system k octet m t l bits octets slab = record { k = k; octet = octet; m = m; t = t; l = l; bits = bits; octets = octets; slab = slab }
+abbrev pub system : (k : ℕ) → Bool → (m t l bits octets slab : ℕ) → Bool → System
+system k octet m t l bits octets slab due =
+    record { k = k; octet = octet; m = m; t = t; l = l; bits = bits; octets = octets; slab = slab; due = due }
 
 -- a number, and what comes after it
 abbrev pub thenNumber : Number → (ℕ → ℕ → Turn) → Turn
@@ -77,7 +80,7 @@ thenNumber number.Malformed f = Malformed
 
 -- four numbers were read: the line is over, and HDPC is 0 or 1
 abbrev pub begun : (size k h m t at : ℕ) → Turn
-begun size k h m t at = cond (ltb size at && leb h 1) (On (system k (eqb h 1) m t (columnsOf k) 0 0 0)) Malformed
+begun size k h m t at = cond (ltb size at && leb h 1) (On (system k (eqb h 1) m t (columnsOf k) 0 0 0 true)) Malformed
 
 unfoldable pub headOf : List ℕ → Turn
 headOf line =
@@ -104,26 +107,34 @@ placed good used n row buffer next = cond (leb n (length buffer - used) && good)
 unfoldable pub rowOn : System → List ℕ → Filled → Filled
 rowOn s buffer f = cond (eqb (s .l) 0) (filled (On s) buffer) f
 
+-- a line that has a place only where something is so
+unfoldable pub onlyIf : Bool → List ℕ → Filled → Filled
+onlyIf so buffer f = cond so f (filled Malformed buffer)
+
 abbrev pub bitsTo : System → ℕ → System
-bitsTo s n = system (s .k) (s .octet) (s .m) (s .t) (s .l) n (s .octets) (s .slab)
+bitsTo s n = system (s .k) (s .octet) (s .m) (s .t) (s .l) n (s .octets) (s .slab) (s .due)
 
 abbrev pub octetsTo : System → ℕ → System
-octetsTo s n = system (s .k) (s .octet) (s .m) (s .t) (s .l) (s .bits) n (s .slab)
+octetsTo s n = system (s .k) (s .octet) (s .m) (s .t) (s .l) (s .bits) n (s .slab) (s .due)
 
 abbrev pub slabTo : System → ℕ → System
-slabTo s n = system (s .k) (s .octet) (s .m) (s .t) (s .l) (s .bits) (s .octets) n
+slabTo s n = system (s .k) (s .octet) (s .m) (s .t) (s .l) (s .bits) (s .octets) n false
 
 -- a row of bits after those that there are
 abbrev pub bitsOn : List ℕ → System → List ℕ → Filled
 bitsOn digits s bits = rowOn s bits (placed (isRow (s .l) digits) (s .bits) (s .l) (bitsOf (s .l) digits) bits (bitsTo s (s .bits + s .l)))
 
--- an octet row after those that there are
+-- an octet row after those that there are, where the case has octet rows
 abbrev pub octetsOn : List ℕ → System → List ℕ → Filled
-octetsOn digits s octets = rowOn s octets (placed (isBytes (s .l) digits) (s .octets) (s .l) (bytesOf digits) octets (octetsTo s (s .octets + s .l)))
+octetsOn digits s octets =
+    onlyIf (s .octet) octets
+    (rowOn s octets (placed (isBytes (s .l) digits) (s .octets) (s .l) (bytesOf digits) octets (octetsTo s (s .octets + s .l))))
 
--- the slab's bytes at the front
+-- the slab's bytes at the front, where no line has told them
 abbrev pub slabOn : List ℕ → System → List ℕ → Filled
-slabOn digits s slab = placed (isBytes (length digits / 2) digits) 0 (length digits / 2) (bytesOf digits) slab (slabTo s (length digits / 2))
+slabOn digits s slab =
+    onlyIf (s .due) slab
+    (placed (isBytes (length digits / 2) digits) 0 (length digits / 2) (bytesOf digits) slab (slabTo s (length digits / 2)))
 
 pub record Buffers : Type 0 where
   pub bits : List ℕ
@@ -190,7 +201,7 @@ module _ (line : List ℕ) where
             unfolding headOf
             head-flag e f = rw (w, p, q, r, u, lt-ltb _ _ e, lt-leb _ _ f)
 
-            pub head-is : length line < d → h ≤ 1 → {l : ℕ} → l ≡ columnsOf k → On (system k (eqb h 1) m t l 0 0 0) ≡ headOf line
+            pub head-is : length line < d → h ≤ 1 → {l : ℕ} → l ≡ columnsOf k → On (system k (eqb h 1) m t l 0 0 0 true) ≡ headOf line
             unfolding headOf
             head-is e f x = rw (w, p, q, r, u, lt-ltb _ _ e, le-leb _ _ f, x)
 
@@ -202,6 +213,15 @@ module _ (s : System) (buffer : List ℕ) (f : Filled) where
   pub row-some : (s .l ≡ 0 → ⊥) → f ≡ rowOn s buffer f
   unfolding rowOn
   row-some e = rw (ne-eqb _ _ e)
+
+module _ (so : Bool) (buffer : List ℕ) (f : Filled) where
+  pub only-not : so ≡ false → filled Malformed buffer ≡ onlyIf so buffer f
+  unfolding onlyIf
+  only-not e = rw e
+
+  pub only-so : so ≡ true → f ≡ onlyIf so buffer f
+  unfolding onlyIf
+  only-so e = rw e
 
 pub part-long : (m : List ℕ) (a n k : ℕ) → n ≤ length m - a → k ≡ n → length (take k (drop a m)) ≡ n
 part-long m a n k h e = rw e (length-take-le n (drop a m) (rw length-drop h))

@@ -24,6 +24,7 @@ fn nibble(c: u8) -> u8
     16
 }
 
+// Whether every byte is a digit.
 pub fn are_digits(digits: &[u8]) -> bool
     ensures { λ r. ⌜ r ≡ areDigits (now (digits .entry)) ⌝ }
 {

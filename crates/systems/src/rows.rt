@@ -8,6 +8,7 @@ use crate::told::System;
 use crate::told::Turn;
 use params::Parameters;
 
+// L of the table for K, or 0.
 fn columns(k: usize) -> usize
     ensures { λ r. ⌜ r ≡ columnsOf k ⌝ }
 {
@@ -48,6 +49,7 @@ pub fn read_head(line: &[u8]) -> Turn
                             bits: 0,
                             octets: 0,
                             slab: 0,
+                            due: true,
                         })
                     }
                 },
@@ -116,13 +118,17 @@ fn read_bits(digits: &[u8], s: System, bits: &mut [u8]) -> Turn
         bits: end,
         octets: s.octets,
         slab: s.slab,
+        due: s.due,
     })
 }
 
-// An octet row.
+// An octet row. A case without octet rows has no such line.
 fn read_octets(digits: &[u8], s: System, octets: &mut [u8]) -> Turn
     ensures { λ r. ⌜ filled r (now (octets .exit)) ≡ octetsOn (now (digits .entry)) s (now (octets .entry)) ⌝ }
 {
+    if !s.octet {
+        return Turn::Malformed;
+    }
     if s.l == 0 {
         return Turn::On(s);
     }
@@ -144,12 +150,17 @@ fn read_octets(digits: &[u8], s: System, octets: &mut [u8]) -> Turn
         bits: s.bits,
         octets: end,
         slab: s.slab,
+        due: s.due,
     })
 }
 
+// The slab's bytes. A case has one such line.
 fn read_slab(digits: &[u8], s: System, slab: &mut [u8]) -> Turn
     ensures { λ r. ⌜ filled r (now (slab .exit)) ≡ slabOn (now (digits .entry)) s (now (slab .entry)) ⌝ }
 {
+    if !s.due {
+        return Turn::Malformed;
+    }
     let n = digits.len() / 2;
     if slab.len() < n {
         return Turn::Malformed;
@@ -167,6 +178,7 @@ fn read_slab(digits: &[u8], s: System, slab: &mut [u8]) -> Turn
         bits: s.bits,
         octets: s.octets,
         slab: n,
+        due: false,
     })
 }
 

@@ -1,6 +1,6 @@
 // What a text says of its cases.
 
-// What a case says, and how many entries of each buffer it has filled.
+// What a case says, how many entries of each buffer it has filled, and whether the line of its slab is still to come.
 pub struct System {
     pub k: usize,
     pub octet: bool,
@@ -10,6 +10,7 @@ pub struct System {
     pub bits: usize,
     pub octets: usize,
     pub slab: usize,
+    pub due: bool,
 }
 
 // Where the line of a case's name begins and ends, and where the text goes on.

@@ -19,6 +19,7 @@ pub fn line_end(text: &[u8], from: usize) -> usize
     i
 }
 
+// Whether a line starts with a word.
 pub fn starts(line: &[u8], word: &[u8]) -> bool
     ensures { λ r. ⌜ r ≡ startsWith (now (word .entry)) (now (line .entry)) ⌝ }
 {
@@ -35,6 +36,7 @@ pub fn starts(line: &[u8], word: &[u8]) -> bool
     true
 }
 
+// The byte as a number of the machine's size.
 fn wide(x: u8) -> usize
     ensures { λ r. ⌜ r ≡ x ⌝ }
 {

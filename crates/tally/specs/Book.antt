@@ -5,6 +5,7 @@
 --   stored, full     what a note makes of a journal: where there is room, and where there is none
 --   pickBook         one of two journals, by a test
 --   Noted            a journal is another with one operation more
+--   noted-one        two outcomes that meet it are equal
 --   Fair             no count is above the number of those used, which is at most one above the room: so no sum wraps
 --   afresh, anew     the counts begin anew, in a tally and in a journal
 --   note-fits, note-full   a note where there is room, and where there is none
@@ -60,6 +61,9 @@ note g o = pickBook (ltb (g .used) (length (g .words))) (stored g o) (full g)
 
 pub record Noted (g : Book) (o : Op) (h : Book) : Type 0 where
   pub is : h ≡ note g o
+
+pub noted-one : {g h k : Book} {o : Op} → Noted g o h → Noted g o k → h ≡ k
+noted-one p q = p .is ∙ sym (q .is)
 
 pub record Fair (g : Book) : Type 0 where
   pub adds-few : g .adds ≤ g .used

@@ -1,7 +1,6 @@
 // The step that records an operation, with the running counts of a phase.
 ghost use mathlib.Core.Path.{_≡_};
 ghost use Rattle.oplist.specs.Word.{Small};
-ghost use Rattle.oplist.specs.Count.{addsIn, mulsIn};
 ghost use Rattle.tally.specs.Book.{book, Fair, Noted, afresh};
 use oplist::Op;
 
@@ -10,26 +9,6 @@ pub struct Tally {
     pub used: usize,
     pub adds: usize,
     pub muls: usize,
-}
-
-fn adds_of(op: Op) -> usize
-    ensures { λ r. ⌜ r ≡ addsIn op ⌝ }
-{
-    match op {
-        Op::AddAssign(_, _) => 1,
-        Op::MulAssign(_, _) => 0,
-        Op::FMA(_, _, _) => 1,
-    }
-}
-
-fn muls_of(op: Op) -> usize
-    ensures { λ r. ⌜ r ≡ mulsIn op ⌝ }
-{
-    match op {
-        Op::AddAssign(_, _) => 0,
-        Op::MulAssign(_, _) => 1,
-        Op::FMA(_, _, _) => 1,
-    }
 }
 
 // One operation more: stored and counted where there is room, else only told by the number of those used.
@@ -41,8 +20,8 @@ pub fn record(list: &mut [u64], t: Tally, op: Op) -> Tally
     let n = t.used;
     let used = oplist::record(list, n, op);
     if n < list.len() {
-        let a = adds_of(op);
-        let b = muls_of(op);
+        let a = oplist::adds_of(op);
+        let b = oplist::muls_of(op);
         return Tally {
             used,
             adds: t.adds + a,

@@ -8,11 +8,10 @@ use mathlib.Core.Bool.{true}
 use mathlib.Core.List.{List}
 use Prim.Native.Nat.{ℕ, _*_, _≤_}
 use lib.ListN.{length, take}
-use Rattle.params.specs.Params.{mostRows}
-use Rattle.oplist.specs.Check.{mostOps, listFine}
+use Rattle.bounds.specs.Bounds.{mostRows, mostBytes, mostOps}
+use Rattle.oplist.specs.Check.{listFine}
 use Rattle.oplist.specs.Listed.{opsOf}
 use Rattle.algebra.specs.Flat.{acts}
-use Rattle.slab.specs.Replay.{mostBytes}
 use Rattle.call.specs.declared.Shape.{Shape}
 use Rattle.call.specs.Over.{keep}
 

@@ -1,70 +1,42 @@
-// Solves each system of the input and writes its answer. The input is taken in parts of whole lines; a case that goes on behind a part is kept for the next.
-ghost use Prim.Native.Nat.{_≤_};
+// Solves each system of the input and writes its answer. The input is taken in parts of whole lines; a case that goes on behind a part is kept
+// for the next. A case that does not fit what can be held is refused, and a line that does not is skipped; reading goes on behind it.
+ghost use Prim.Native.Nat.{_≤_, _<_};
 ghost use lib.ListN.{length};
 use libc::STDIN_FILENO;
-use libc::STDOUT_FILENO;
 use oplist::Op;
 use oplist::Word;
+use programs::at_most;
+use programs::put;
+use programs::put_bytes;
+use programs::put_count;
+use programs::put_number;
 use solver::Answer;
-use solver::OctetRows;
 use solver::Report;
 use systems::Place;
 use systems::Read;
 use systems::System;
 
-// How much of the input is held at once, in bytes: more than any case within the bounds, and any line of an answer.
+// How much of the input is held at once, in bytes: more than any case within the bounds.
 const HELD: usize = 2097152;
 
 // More parts than an input has.
-const MOST_PARTS: usize = 1048576;
+const MOST_PARTS: usize = 1099511627776;
 
 // More lines than an input has.
 const MOST_LINES: usize = 1099511627776;
 
-// Room for the longest list that there is within the bounds.
-const LIST_ROOM: usize = 92331;
+// Room for the slab of a case: 256 rows of 64 bytes.
+const SLAB_ROOM: usize = 16384;
 
-// Writes bytes to standard output.
-fn put(text: &[u8]) {
-    io::write_all(STDOUT_FILENO, text);
-}
-
-// Writes a number in decimal.
-fn put_number(n: usize) {
-    io::print_decimal(STDOUT_FILENO, n as u64);
-}
-
-// A name and a number.
+// A line of a name and a number.
 fn put_line(name: &[u8], n: usize) {
-    put(name);
-    put_number(n);
+    put_count(name, n);
     put(b"\n");
-}
-
-// The hexadecimal digit of a number's last four bits.
-fn digit(n: u8) -> u8 {
-    let d = n % 16;
-    if d < 10 { 48 + d } else { 87 + d }
-}
-
-// A byte as two digits.
-fn put_byte(b: u8) {
-    let pair = [digit(b / 16), digit(b)];
-    put(&pair);
 }
 
 // Writes a space.
 fn put_space() {
     put(b" ");
-}
-
-// Writes bytes as digits.
-fn put_bytes(bytes: &[u8]) {
-    let mut i = 0;
-    while i < bytes.len() {
-        put_byte(bytes[i]);
-        i += 1;
-    }
 }
 
 // A name and a line of bytes.
@@ -126,13 +98,6 @@ fn put_rows(order: &[usize]) {
     }
 }
 
-// The number, or the most that is asked for.
-fn at_most(n: usize, most: usize) -> usize
-    ensures { λ r. ⌜ r ≤ most ⌝ }
-{
-    if n < most { n } else { most }
-}
-
 // The first n operations.
 fn put_list(list: &[u64], n: usize) {
     let e = at_most(n, list.len());
@@ -190,56 +155,6 @@ fn put_counts(r: Report) {
     );
 }
 
-// What a case says of its octet rows.
-fn octet_rows(given: bool) -> OctetRows {
-    if given {
-        return OctetRows::Given;
-    }
-    OctetRows::Absent
-}
-
-// The call, over working rooms of its own.
-fn call(
-    s: System,
-    bits: &[u8],
-    octets: &[u8],
-    slab: &mut [u8],
-    list: &mut [u64],
-    order: &mut [usize],
-    vector: &mut [u8],
-) -> Answer {
-    let mut work = [0u8; 65536];
-    let mut scratch = [0u8; 256];
-    let mut columns = [0usize; 256];
-    let mut rows = [0usize; 256];
-    let mut ones = [0usize; 256];
-    let mut degrees = [0usize; 256];
-    let mut singles = [0usize; 256];
-    let mut labels = [0usize; 256];
-    let mut sizes = [0usize; 514];
-    solver::solve(
-        s.k,
-        s.m,
-        s.t,
-        bits,
-        octet_rows(s.octet),
-        octets,
-        slab,
-        list,
-        order,
-        vector,
-        &mut work,
-        &mut scratch,
-        &mut columns,
-        &mut rows,
-        &mut ones,
-        &mut degrees,
-        &mut singles,
-        &mut labels,
-        &mut sizes,
-    )
-}
-
 // What there is to say of a solved system.
 fn put_solved(s: System, r: Report, list: &[u64], order: &[usize], slab: &[u8]) {
     put_line(b"length ", r.operations);
@@ -259,29 +174,14 @@ fn put_answer(s: System, a: Answer, list: &[u64], order: &[usize], vector: &[u8]
     }
 }
 
-// The call over the inputs alone, and its answer.
-fn solve_parts(s: System, bits: &[u8], octets: &[u8], slab: &mut [u8]) {
-    let mut list = [0u64; LIST_ROOM];
-    let mut order = [0usize; 256];
-    let mut vector = [0u8; 256];
-    let a = call(s, bits, octets, slab, &mut list, &mut order, &mut vector);
-    put_answer(s, a, &list, &order, &vector, &slab[..]);
-}
-
-// The case whose inputs are at the front of the buffers.
+// Solves the case whose inputs are at the front of the buffers, and writes its answer.
 fn solve_case(s: System, bits: &[u8], octets: &[u8], slab: &mut [u8]) {
-    let b = at_most(s.bits, bits.len());
-    let o = at_most(s.octets, octets.len());
+    let mut list = [0u64; programs::LIST_ROOM];
+    let mut order = [0usize; programs::LINE_ROOM];
+    let mut vector = [0u8; programs::LINE_ROOM];
+    let a = programs::solve_case(s, bits, octets, slab, &mut list, &mut order, &mut vector);
     let n = at_most(s.slab, slab.len());
-    solve_parts(s, &bits[0..b], &octets[0..o], &mut slab[0..n]);
-}
-
-// The line of a case's name.
-fn put_name(text: &[u8], p: Place) {
-    let e = at_most(p.end, text.len());
-    let a = at_most(p.from, e);
-    put(&text[a..e]);
-    put(b"\n");
+    put_answer(s, a, &list, &order, &vector, &slab[0..n]);
 }
 
 // Where the text goes on; whether from there on more of the input has to be there first.
@@ -305,8 +205,8 @@ fn refuse(text: &[u8], p: Place, lines: usize, last: bool) -> Next {
             };
         }
     }
-    put_name(text, p);
-    put_line(b"refused line ", line_at(text, p.next, lines));
+    programs::put_name(text, p);
+    programs::put_refused(text, p, line_at(text, p.next, lines));
     put(b"end\n");
     Next {
         place: p.next,
@@ -326,7 +226,7 @@ fn one(
 ) -> Next {
     match systems::read(text, at, bits, octets, slab) {
         Read::Case(s, p) => {
-            put_name(text, p);
+            programs::put_name(text, p);
             solve_case(s, &bits[..], &octets[..], slab);
             put(b"end\n");
             Next {
@@ -346,9 +246,9 @@ fn one(
 fn all(text: &[u8], lines: usize, last: bool) -> usize
     ensures { λ r. ⌜ r ≤ length (now (text .entry)) ⌝ }
 {
-    let mut bits = [0u8; 66000];
-    let mut octets = [0u8; 8192];
-    let mut slab = [0u8; 16384];
+    let mut bits = [0u8; programs::BITS_ROOM];
+    let mut octets = [0u8; programs::OCTETS_ROOM];
+    let mut slab = [0u8; SLAB_ROOM];
     let mut at = 0;
     while at < text.len() {
         let next = one(text, at, lines, last, &mut bits, &mut octets, &mut slab);
@@ -386,11 +286,122 @@ fn move_front(buffer: &mut [u8], from: usize) {
     }
 }
 
-// What is held of the input: how many bytes, how many lines were before them, and whether there is no more.
+// What is held of the input: how many bytes, how many lines were before them, whether they begin within a line that is skipped, and whether
+// there is no more.
 struct Part {
     held: usize,
     lines: usize,
+    skips: bool,
     over: bool,
+}
+
+// Nothing is held, so many lines were before, and the input goes on.
+fn nothing(lines: usize, skips: bool, over: bool) -> Part {
+    Part {
+        held: 0,
+        lines,
+        skips,
+        over,
+    }
+}
+
+// Holds what is behind a newline.
+fn keep(buffer: &mut [u8], newline: usize, lines: usize) -> Part
+    requires { ⌜ newline < length (now buffer) ⌝ }
+{
+    let before = line_at(&buffer[..], newline, lines);
+    let from = newline + 1;
+    let held = buffer.len() - from;
+    move_front(buffer, from);
+    Part {
+        held,
+        lines: before,
+        skips: false,
+        over: false,
+    }
+}
+
+// Where the first newline is, or the end.
+fn first_newline(text: &[u8]) -> usize
+    ensures { λ r. ⌜ r ≤ length (now (text .entry)) ⌝ }
+{
+    let mut i = 0;
+    while i < text.len() {
+        if text[i] == b'\n' {
+            return i;
+        }
+        i += 1;
+    }
+    i
+}
+
+// Skips the rest of a line.
+fn skip_line(buffer: &mut [u8], lines: usize, last: bool) -> Part {
+    let end = first_newline(&buffer[..]);
+    if end < buffer.len() {
+        return keep(buffer, end, lines);
+    }
+    nothing(lines, true, last)
+}
+
+// Whether a text begins with the word of a case's name.
+fn begins_case(text: &[u8]) -> bool {
+    if text.len() < 5 {
+        return false;
+    }
+    if text[0] != b'c' {
+        return false;
+    }
+    if text[1] != b'a' {
+        return false;
+    }
+    if text[2] != b's' {
+        return false;
+    }
+    if text[3] != b'e' {
+        return false;
+    }
+    text[4] == b' '
+}
+
+// The end of a line on what does not fit.
+fn put_too_long() {
+    put_count(b" is longer than ", HELD);
+    put(b" bytes\n");
+}
+
+// A line that goes on behind all that can be held: where it would name a case, it is refused.
+fn refuse_line(text: &[u8], lines: usize) {
+    if begins_case(text) {
+        put_count(b"refused line ", line_at(text, 0, lines));
+        put(b": the line");
+        put_too_long();
+    }
+}
+
+// A case that goes on behind all that can be held.
+fn refuse_case(text: &[u8]) {
+    let end = first_newline(text);
+    let p = Place {
+        from: 0,
+        end,
+        next: end,
+    };
+    programs::put_name(text, p);
+    put(b"refused: the case");
+    put_too_long();
+    put(b"end\n");
+}
+
+// What is held is a case, or a line, that goes on behind it.
+fn refuse_long(buffer: &mut [u8], lines: usize) -> Part {
+    let end = whole_lines(&buffer[..]);
+    if end == 0 {
+        refuse_line(&buffer[..], lines);
+        return nothing(lines, true, false);
+    }
+    refuse_case(&buffer[..]);
+    keep(buffer, end - 1, lines)
 }
 
 // How many bytes of a part are read: all of the last one, the whole lines of another.
@@ -409,50 +420,33 @@ fn take_cases(text: &[u8], lines: usize, last: bool) -> usize {
 // The cases of what is held; then the rest is held.
 fn take_part(buffer: &mut [u8], lines: usize, last: bool) -> Part {
     let from = at_most(take_cases(&buffer[..], lines, last), buffer.len());
-    let held = buffer.len() - from;
     if last {
-        return Part {
-            held: 0,
-            lines,
-            over: true,
-        };
+        return nothing(lines, false, true);
     }
     if from == 0 {
-        put(b"refused: a case or a line is longer than 2097152 bytes\n");
-        return Part {
-            held: 0,
-            lines,
-            over: true,
-        };
+        return refuse_long(buffer, lines);
     }
-    let before = line_at(&buffer[..], from - 1, lines);
-    move_front(buffer, from);
-    Part {
-        held,
-        lines: before,
-        over: false,
-    }
+    keep(buffer, from - 1, lines)
 }
 
 // One part more of standard input, behind what is held.
-fn read_part(buffer: &mut [u8], held: usize, lines: usize) -> Part {
+fn read_part(buffer: &mut [u8], held: usize, lines: usize, skips: bool) -> Part {
     let n = at_most(held, buffer.len());
     let got = io::read_full(STDIN_FILENO, &mut buffer[n..]);
     let end = at_most(n + got, buffer.len());
     let last = end < buffer.len();
+    if skips {
+        return skip_line(&mut buffer[0..end], lines, last);
+    }
     take_part(&mut buffer[0..end], lines, last)
 }
 
 // Every part of standard input.
 fn read_all(buffer: &mut [u8]) {
-    let mut p = Part {
-        held: 0,
-        lines: 0,
-        over: false,
-    };
+    let mut p = nothing(0, false, false);
     let mut n = 0;
     while n < MOST_PARTS {
-        p = read_part(buffer, p.held, p.lines);
+        p = read_part(buffer, p.held, p.lines, p.skips);
         if p.over {
             return;
         }

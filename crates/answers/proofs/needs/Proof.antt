@@ -4,7 +4,7 @@ use native.Mathlib.Omega.{arith}
 use borrow.Author.Needs.{needs}
 use borrow.Author.Tests.{le-leb, lt-leb}
 use Rattle.answers.specs.declared.Need.the-variants.{Entries}
-use Rattle.answers.specs.Rooms.{needOf}
+use Rattle.answers.specs.Rooms.{needOf, need-met}
 use Rattle.answers.proofs.needs.Statement.{statement}
 use Rattle.answers.proofs.needs.Tie as tie
 use Rattle.answers.proofs.needs.Reads as reads
@@ -13,15 +13,15 @@ use Rattle.answers.proofs.rooms_for.Reads as rooms-for-reads
 
 returns : tie.Need-returns
 unfolding needOf
-returns c = rw (lt-leb _ _ (c .if1 .taken))
+returns c = need-met (rw (lt-leb _ _ (c .if1 .taken)))
 
 returns-2 : tie.Need-returns-2
 unfolding needOf
-returns-2 c = rw (le-leb _ _ (c .before .if1 .left), lt-leb _ _ (c .if2 .taken))
+returns-2 c = need-met (rw (le-leb _ _ (c .before .if1 .left), lt-leb _ _ (c .if2 .taken)))
 
 returns-3 : tie.Need-returns-3
 unfolding needOf
-returns-3 c = rw (le-leb _ _ (c .before .before .if1 .left), le-leb _ _ (c .before .if2 .left), lt-leb _ _ (c .if3 .taken))
+returns-3 c = need-met (rw (le-leb _ _ (c .before .before .if1 .left), le-leb _ _ (c .before .if2 .left), lt-leb _ _ (c .if3 .taken)))
 
 rooms-for-requires : tie.Need-rooms-for-requires
 rooms-for-requires c κs = search needs
@@ -29,8 +29,8 @@ rooms-for-requires c κs = search needs
 returns-4 : tie.Need-returns-4
 unfolding needOf
 returns-4 c =
-    rw (le-leb _ _ (c .before .before .before .if1 .left), le-leb _ _ (c .before .before .if2 .left), le-leb _ _ (c .before .if3 .left))
-    (ap Entries (c .rooms-for .ensures))
+    need-met (rw (le-leb _ _ (c .before .before .before .if1 .left), le-leb _ _ (c .before .before .if2 .left), le-leb _ _ (c .before .if3 .left))
+    (ap Entries (c .rooms-for .ensures)))
 
 pub needs-spec : {M : Type 1} → statement M
 needs-spec = tie.close (tie.spec returns returns-2 returns-3 rooms-for-requires returns-4)

@@ -2,7 +2,8 @@
 use lib.ListN.{length, getD}
 use Rattle.rule.specs.Labels.{and-both}
 use Rattle.columns.specs.First.{Seeking, seek-start, seek-next, seek-found, seek-end}
-use Rattle.choice.specs.Told.{told, and-left, and-right}
+use Rattle.figures.specs.Told.{told}
+use Rattle.choice.specs.Choose.{and-left, and-right}
 use Rattle.grid.specs.Grid.{bit}
 use mathlib.Core.Path.{sym, _∙_}
 use mathlib.Core.Bool.{_&&_}
@@ -30,11 +31,8 @@ mul-y c = search needs
 shared-slice-read-y : tie.Need-shared-slice-read-y Inv-loop μ-loop
 shared-slice-read-y c = search needs
 
-mul-if1 : tie.Need-mul-if1 Inv-loop μ-loop
-mul-if1 c = omega (arith, (c .before .before .before .before .before .before .pre .1 .1 .at) (c .before .before .loop .k) (c .before .loop-test .taken))
-
-shared-slice-read-if1 : tie.Need-shared-slice-read-if1 Inv-loop μ-loop
-shared-slice-read-if1 c = omega (arith, (c .before .before .before .before .before .before .before .pre .1 .1 .at) (c .before .before .before .loop .k) (c .before .before .loop-test .taken))
+ones-of-requires : tie.Need-ones-of-requires Inv-loop μ-loop
+ones-of-requires c κs = (c .before .before .before .before .before .before .pre .1 .1 .at) (c .before .before .loop .k) (c .before .loop-test .taken)
 
 has-requires : tie.Need-has-requires Inv-loop μ-loop
 has-requires c κs =
@@ -42,7 +40,7 @@ has-requires c κs =
     ((s .pre .1 .0 .at) (c .before .before .before .before .loop .k) (c .before .before .before .loop-test .taken), omega (arith, s .pre .0))
 
 returns : tie.Need-returns Inv-loop μ-loop
-returns c = seek-found (c .before .before .before .before .before .before .loop .inv) (c .before .before .before .before .before .loop-test .taken) (and-both _ _ (sym (c .before .has .ensures) ∙ (c .if2 .taken)) (eq-eqb _ _ (c .before .before .if1 .taken)))
+returns c = seek-found (c .before .before .before .before .before .before .loop .inv) (c .before .before .before .before .before .loop-test .taken) (and-both _ _ (sym (c .before .has .ensures) ∙ (c .if2 .taken)) (eq-eqb _ _ (sym (c .before .before .before .ones-of .ensures) ∙ c .before .before .if1 .taken)))
 
 add-k : tie.Need-add-k Inv-loop μ-loop
 add-k c = search needs
@@ -55,7 +53,7 @@ loop-again c =
     let t = c .before .before .before .before in
     let s = c .before .before .before .before .before .before .before .before in
     seek-next (t .loop .inv) (c .before .before .before .loop-test .taken)
-    (⊎-elim (λ w. and-left _ (eqb (told (s .args .ones .now) (getD (s .args .e .now) (t .loop .k) 0)) 2) (sym (w .1 .ensures) ∙ w .2 .left)) (λ w. and-right (bit (s .args .l) (s .args .bits .now) (getD (s .args .e .now) (t .loop .k) 0) (s .args .q)) _ (ne-eqb _ _ (w .left))) (c .if1 .came))
+    (⊎-elim (λ w. and-left _ (eqb (told (s .args .ones .now) (getD (s .args .e .now) (t .loop .k) 0)) 2) (sym (w .1 .ensures) ∙ w .2 .left)) (λ w. and-right (bit (s .args .l) (s .args .bits .now) (getD (s .args .e .now) (t .loop .k) 0) (s .args .q)) _ (ne-eqb _ _ (λ q. w .left (c .before .ones-of .ensures ∙ q)))) (c .if1 .came))
 
 returns-2 : tie.Need-returns-2 Inv-loop μ-loop
 returns-2 c = seek-end (c .before .loop .inv) (c .loop-test .left)
@@ -69,8 +67,7 @@ at-node-spec =
     loop-holds
     mul-y
     shared-slice-read-y
-    mul-if1
-    shared-slice-read-if1
+    ones-of-requires
     has-requires
     returns
     add-k

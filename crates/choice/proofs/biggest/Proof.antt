@@ -1,6 +1,6 @@
 -- `choice::biggest` meets its contract. Assumes nothing.
 use Rattle.choice.specs.Sizes.{Growing, grow-start, grow-first, grow-next, grow-stay, grow-end}
-use Rattle.choice.specs.Told.{told}
+use Rattle.figures.specs.Told.{told}
 use mathlib.Core.Logic.{⊎-elim}
 use Prim.Native.Nat.{_-_}
 use native.Mathlib.Omega.{arith}

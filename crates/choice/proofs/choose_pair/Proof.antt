@@ -1,6 +1,6 @@
 -- `choice::choose_pair` meets its contract. Assumes nothing.
 use Rattle.choice.specs.Choose.{pair-none, pair-some}
-use Rattle.choice.specs.Told.{told}
+use Rattle.figures.specs.Told.{told}
 use Rattle.grid.specs.Grid.{bit}
 use borrow.Author.Needs.{needs}
 use Rattle.choice.proofs.choose_pair.Statement.{statement}

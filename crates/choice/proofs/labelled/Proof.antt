@@ -1,6 +1,6 @@
 -- `choice::labelled` meets its contract. Assumes nothing.
 use Rattle.columns.specs.First.{Seeking, seek-start, seek-next, seek-found, seek-end}
-use Rattle.choice.specs.Told.{told}
+use Rattle.figures.specs.Told.{told}
 use borrow.Author.Tests.{eq-eqb, ne-eqb}
 use lib.ListN.{length}
 use lib.Dec.{eqb}

@@ -1,6 +1,6 @@
 -- `choice::sizes_of` meets its contract. Assumes nothing.
 use Rattle.choice.specs.Sizes.{Sizing, size-start, size-next, size-fits, size-end}
-use Rattle.choice.specs.Told.{told}
+use Rattle.figures.specs.Told.{told}
 use lib.ListN.{length}
 use Prim.Native.Nat.{_-_}
 use native.Mathlib.Omega.{arith}

@@ -11,10 +11,10 @@ use Rattle.clearing.proofs.clear_octets.Statement.{statement}
 use Rattle.clearing.proofs.clear_octets.Tie as tie
 
 abbrev Inv-loop : tie.InvT-loop
-Inv-loop octs l s h q x list₀ r₀ j₀ list r j = Multiples l s octs q x h (book list₀ r₀) j (book list r)
+Inv-loop octets l s h q x list₀ r₀ j₀ list r j = Multiples l s octets q x h (book list₀ r₀) j (book list r)
 
 abbrev μ-loop : tie.MeasureT-loop
-μ-loop octs l s h q x list₀ r₀ j₀ list r j = h - j
+μ-loop octets l s h q x list₀ r₀ j₀ list r j = h - j
 
 loop-holds : tie.Need-loop-holds Inv-loop μ-loop
 loop-holds c = octet-start (c .before .before .pre .1)
@@ -40,7 +40,7 @@ record-requires c κs =
     let p = c .before .before .before .before .before .before .before .before .pre .0 in
     let t = c .before .before .before .before .loop-test .taken in
     let j = c .before .before .before .before .before .loop .j in (
-      small-multiple (getD (a .octs .now) (j * a .l + a .q) 0) (a .s + j) (a .x) (omega (arith, c .before .before .before .shared-slice-known2 .given (j * a .l + a .q))) (omega (arith, t, p .1)) (p .3)
+      small-multiple (getD (a .octets .now) (j * a .l + a .q) 0) (a .s + j) (a .x) (omega (arith, c .before .before .before .shared-slice-known2 .given (j * a .l + a .q))) (omega (arith, t, p .1)) (p .3)
           (c .before .multiple-of .ensures),
       c .before .before .before .before .before .loop .inv .inv .fair,
     )

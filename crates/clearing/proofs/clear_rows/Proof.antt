@@ -3,7 +3,6 @@ use mathlib.Core.Path.{sym, _∙_}
 use mathlib.Core.Logic.{⊎-elim}
 use Prim.Native.Nat.{_-_}
 use lib.ListN.{length}
-use native.Mathlib.Omega.{arith}
 use borrow.Author.Needs.{needs}
 use Rattle.tally.specs.Book.{book}
 use Rattle.clearing.specs.Clear.{binary-at, Clearing, clear-start, clear-none, clear-one, clear-end, bit-one, bit-none}

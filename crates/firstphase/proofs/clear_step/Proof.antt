@@ -55,7 +55,7 @@ same-length c = search needs
 
 returns : tie.Need-returns
 unfolding part
-returns c = cleared (asShape (c .before .before .before .before .before .before .before .before .before .before .before .before .before .before .before .before .before .args .z)) (c .before .before .before .before .before .before .before .before .before .before .before .before .before .before .before .before .before .args .bits .now) (c .before .before .before .before .before .before .before .before .before .before .before .before .before .before .before .before .before .args .octs .now) (getD (c .before .before .before .before .before .before .before .before .before .before .before .before .before .before .before .before .before .args .c .now) (c .before .before .before .before .before .before .before .before .before .before .before .before .before .before .before .before .before .args .i) 0) (getD (c .before .before .before .before .before .before .before .before .before .before .before .before .before .before .before .before .before .args .d .now) (c .before .before .before .before .before .before .before .before .before .before .before .before .before .before .before .before .before .args .i) 0) (belowAt (asShape (c .before .before .before .before .before .before .before .before .before .before .before .before .before .before .before .before .before .args .z)) (c .before .before .before .before .before .before .before .before .before .before .before .before .before .before .before .before .before .args .i) (c .before .before .before .before .before .before .before .before .before .before .before .before .before .before .before .before .before .args .d .now)) (c .before .before .before .before .before .before .before .before .before .before .before .before .before .before .before .before .before .pre .0 .out) (c .before .before .before .before .before .before .clear-rows .ensures) (c .before .before .clear-octets .ensures)
+returns c = cleared (asShape (c .before .before .before .before .before .before .before .before .before .before .before .before .before .before .before .before .before .args .z)) (c .before .before .before .before .before .before .before .before .before .before .before .before .before .before .before .before .before .args .bits .now) (c .before .before .before .before .before .before .before .before .before .before .before .before .before .before .before .before .before .args .octets .now) (getD (c .before .before .before .before .before .before .before .before .before .before .before .before .before .before .before .before .before .args .c .now) (c .before .before .before .before .before .before .before .before .before .before .before .before .before .before .before .before .before .args .i) 0) (getD (c .before .before .before .before .before .before .before .before .before .before .before .before .before .before .before .before .before .args .d .now) (c .before .before .before .before .before .before .before .before .before .before .before .before .before .before .before .before .before .args .i) 0) (belowAt (asShape (c .before .before .before .before .before .before .before .before .before .before .before .before .before .before .before .before .before .args .z)) (c .before .before .before .before .before .before .before .before .before .before .before .before .before .before .before .before .before .args .i) (c .before .before .before .before .before .before .before .before .before .before .before .before .before .before .before .before .before .args .d .now)) (c .before .before .before .before .before .before .before .before .before .before .before .before .before .before .before .before .before .pre .0 .out) (c .before .before .before .before .before .before .clear-rows .ensures) (c .before .before .clear-octets .ensures)
 
 pub clear-step-spec : {M : Type 1} → statement M
 clear-step-spec =

@@ -15,10 +15,10 @@ use Rattle.firstphase.proofs.clear_step.Reads as clear-step-reads
 use Rattle.stepping.proofs.turn.Reads as turn-reads
 
 abbrev Inv-loop : tie.InvT-loop
-Inv-loop bits octs z c₀ d₀ ones₀ deg s₀ labels₀ sizes₀ list₀ l st₀ r₀ c d ones s labels sizes list st r = Looping (asShape z) bits octs (book list₀ r₀) (length sizes₀) c d ones s labels sizes (st .i) (st .u) (st .singles) (st .next) (book list r)
+Inv-loop bits octets z c₀ d₀ ones₀ deg s₀ labels₀ sizes₀ list₀ l st₀ r₀ c d ones s labels sizes list st r = Looping (asShape z) bits octets (book list₀ r₀) (length sizes₀) c d ones s labels sizes (st .i) (st .u) (st .singles) (st .next) (book list r)
 
 abbrev μ-loop : tie.MeasureT-loop
-μ-loop bits octs z c₀ d₀ ones₀ deg s₀ labels₀ sizes₀ list₀ l st₀ r₀ c d ones s labels sizes list st r = z .l - st .i
+μ-loop bits octets z c₀ d₀ ones₀ deg s₀ labels₀ sizes₀ list₀ l st₀ r₀ c d ones s labels sizes list st r = z .l - st .i
 
 loop-holds : tie.Need-loop-holds Inv-loop μ-loop
 loop-holds c = loop-start _ _ (c .before .before .before .before .before .before .before .before .before .before .pre .1 .1 .1 .0) (c .before .before .before .before .before .before .before .before .before .before .pre .1 .1 .1 .2) (c .before .before .before .before .before .before .before .before .before .before .pre .1 .0)
@@ -54,7 +54,7 @@ same-length-7 : tie.Need-same-length-7 Inv-loop μ-loop
 same-length-7 c = c .before .before .before .before .before .before .before .before .before .before .before .before .before .before .before .before .before .before .before .before .before .before .before .loop .inv .listed .room
 
 returns : tie.Need-returns Inv-loop μ-loop
-returns c = (ended-none (c .before .before .before .before .before .before .before .before .before .before .before .before .before .before .before .before .before .before .before .before .before .before .before .before .before .before .before .before .before .before .before .before .before .before .pre .0) (c .before .before .before .before .before .before .before .before .before .before .before .before .before .before .before .before .before .before .before .before .before .before .before .loop .inv) (turned-none (c .before .before .before .before .before .before .before .before .before .before .before .before .before .before .before .before .before .before .before .before .before .before .before .loop .st) (c .enum-told .given .1) (c .before .before .before .before .before .before .before .before .before .before .before .before .before .before .turn .ensures)), c .before .before .before .before .before .before .before .before .before .before .before .before .before .before .before .before .before .before .before .before .before .if1 .taken)
+returns c = ended-none (c .before .before .before .before .before .before .before .before .before .before .before .before .before .before .before .before .before .before .before .before .before .before .before .before .before .before .before .before .before .before .before .before .before .before .pre .0) (c .before .before .before .before .before .before .before .before .before .before .before .before .before .before .before .before .before .before .before .before .before .before .before .loop .inv) (turned-none (c .before .before .before .before .before .before .before .before .before .before .before .before .before .before .before .before .before .before .before .before .before .before .before .loop .st) (c .enum-told .given .1) (c .before .before .before .before .before .before .before .before .before .before .before .before .before .before .turn .ensures)) (c .before .before .before .before .before .before .before .before .before .before .before .before .before .before .before .before .before .before .before .before .before .if1 .taken)
 
 enum-known-made : tie.Need-enum-known-made Inv-loop μ-loop
 enum-known-made c = search needs

@@ -1,8 +1,8 @@
 -- `opening::add_twos` meets its contract: what is left to join of ys. Assumes nothing.
+use mathlib.Core.Path.{sym, _∙_}
 use mathlib.Core.Logic.{⊎-elim}
 use Prim.Native.Nat.{_-_}
 use lib.ListN.{length}
-use native.Mathlib.Omega.{arith}
 use borrow.Author.Needs.{needs}
 use Rattle.grid.specs.Grid.{bit}
 use Rattle.labels.specs.Marking.{Joining, join-start, join-hit, join-skip, join-end, as-long}
@@ -25,17 +25,14 @@ mul-y c = search needs
 shared-slice-read-y : tie.Need-shared-slice-read-y Inv-loop μ-loop
 shared-slice-read-y c = search needs
 
-mul-if1 : tie.Need-mul-if1 Inv-loop μ-loop
-mul-if1 c = let h = c .before .before .before .before .before .before .before .before .pre .1 .at _ (c .before .loop-test .taken) in search needs
-
-shared-slice-read-if1 : tie.Need-shared-slice-read-if1 Inv-loop μ-loop
-shared-slice-read-if1 c = c .before .before .before .before .before .before .before .before .before .pre .1 .at _ (c .before .before .loop-test .taken)
+ones-of-requires : tie.Need-ones-of-requires Inv-loop μ-loop
+ones-of-requires c κs = c .before .before .before .before .before .before .before .before .pre .1 .at _ (c .before .loop-test .taken)
 
 add-row-requires : tie.Need-add-row-requires Inv-loop μ-loop
 add-row-requires c κs =
     let p = c .before .before .before .before .before .before .before .before .before .before .before .pre in
     let t = c .before .before .before .before .loop-test .taken in
-    (p .0 .at _ t, p .2, two-ones (p .3) t (c .before .if1 .taken), c .before .before .before .before .before .loop .inv .ready, as-long (p .5) (c .before .before .before .before .before .loop .inv .kept))
+    (p .0 .at _ t, p .2, two-ones (p .3) t (sym (c .before .before .ones-of .ensures) ∙ c .before .if1 .taken), c .before .before .before .before .before .loop .inv .ready, as-long (p .5) (c .before .before .before .before .before .loop .inv .kept))
 
 add-k : tie.Need-add-k Inv-loop μ-loop
 add-k c = search needs
@@ -48,8 +45,8 @@ loop-again c =
     let i = c .before .before .before .before .loop .inv in
     let t = c .before .before .before .loop-test .taken in
     ⊎-elim
-    (λ w. rw (w .5, w .6) (join-hit i t (two-yes _ _ (w .0 .taken)) (w .2 .ensures)))
-    (λ w. rw (w .1, w .2) (join-skip i t (two-no _ _ (w .0 .left))))
+    (λ w. rw (w .5, w .6) (join-hit i t (two-yes _ _ (sym (c .before .ones-of .ensures) ∙ w .0 .taken)) (w .2 .ensures)))
+    (λ w. rw (w .1, w .2) (join-skip i t (two-no _ _ (λ q. w .0 .left (c .before .ones-of .ensures ∙ q)))))
     (c .if1 .came)
 
 same-length : tie.Need-same-length Inv-loop μ-loop
@@ -67,8 +64,7 @@ add-twos-spec =
     loop-holds
     mul-y
     shared-slice-read-y
-    mul-if1
-    shared-slice-read-if1
+    ones-of-requires
     add-row-requires
     add-k
     loop-less

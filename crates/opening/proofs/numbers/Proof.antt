@@ -1,7 +1,6 @@
 -- `opening::numbers` meets its contract: the list is made from the front. Assumes nothing.
 use Prim.Native.Nat.{_-_}
 use lib.ListN.{length}
-use native.Mathlib.Omega.{arith}
 use borrow.Author.Needs.{needs}
 use Rattle.loops.specs.Front.{Front, begin, turn, end}
 use Rattle.phases.specs.System.{range}

@@ -1,3 +1,4 @@
+use mathlib.Core.Path.{sym, _∙_}
 use mathlib.Core.Logic.{⊎-elim}
 use Prim.Native.Nat.{_-_}
 use lib.ListN.{length, getD}
@@ -27,11 +28,8 @@ mul-y c = search needs
 shared-slice-read-y : tie.Need-shared-slice-read-y Inv-loop μ-loop
 shared-slice-read-y c = search needs
 
-mul-if1 : tie.Need-mul-if1 Inv-loop μ-loop
-mul-if1 c = let h = c .before .before .before .before .before .before .pre .0 .at _ (c .before .loop-test .taken) in search needs
-
-shared-slice-read-if1 : tie.Need-shared-slice-read-if1 Inv-loop μ-loop
-shared-slice-read-if1 c = c .before .before .before .before .before .before .before .pre .0 .at _ (c .before .before .loop-test .taken)
+ones-of-requires : tie.Need-ones-of-requires Inv-loop μ-loop
+ones-of-requires c κs = c .before .before .before .before .before .before .pre .0 .at _ (c .before .loop-test .taken)
 
 put-in-requires : tie.Need-put-in-requires Inv-loop μ-loop
 put-in-requires c κs = pick-room (c .before .before .before .before .before .loop .inv) (c .before .before .before .before .before .before .before .before .before .pre .1) (c .before .before .before .before .loop-test .taken)
@@ -44,8 +42,8 @@ loop-less c = search needs
 
 loop-again : tie.Need-loop-again Inv-loop μ-loop
 loop-again c = ⊎-elim
-    (λ w. rw (w .5, w .6) (pick-in (c .before .before .before .before .loop .inv) (c .before .before .before .loop-test .taken) (eq-eqb _ _ (w .0 .taken)) (w .2 .ensures .0) (w .2 .ensures .1)))
-    (λ w. rw (w .1, w .2) (pick-skip (c .before .before .before .before .loop .inv) (c .before .before .before .loop-test .taken) (ne-eqb _ _ (w .0 .left))))
+    (λ w. rw (w .5, w .6) (pick-in (c .before .before .before .before .loop .inv) (c .before .before .before .loop-test .taken) (eq-eqb _ _ (sym (c .before .ones-of .ensures) ∙ w .0 .taken)) (w .2 .ensures .0) (w .2 .ensures .1)))
+    (λ w. rw (w .1, w .2) (pick-skip (c .before .before .before .before .loop .inv) (c .before .before .before .loop-test .taken) (ne-eqb _ _ (λ q. w .0 .left (c .before .ones-of .ensures ∙ q)))))
     (c .if1 .came)
 
 same-length : tie.Need-same-length Inv-loop μ-loop
@@ -63,8 +61,7 @@ first-singles-spec =
     loop-holds
     mul-y
     shared-slice-read-y
-    mul-if1
-    shared-slice-read-if1
+    ones-of-requires
     put-in-requires
     add-k
     loop-less

@@ -1,6 +1,5 @@
 use Rattle.singles.specs.Figures.{renew-room, renew-done}
 use Rattle.singles.specs.Facts.{refresh-in, refresh-not}
-use mathlib.Core.Path.{refl}
 use native.Mathlib.Omega.{arith}
 use borrow.Author.Needs.{needs}
 use Rattle.singles.proofs.refresh.Statement.{statement}
@@ -10,11 +9,8 @@ use Rattle.singles.proofs.refresh.Lts as lts
 use Rattle.singles.proofs.put_in.Reads as put-in-reads
 use Rattle.singles.proofs.take_out.Reads as take-out-reads
 
-mul-k : tie.Need-mul-k
-mul-k c = search needs
-
-shared-slice-read-k : tie.Need-shared-slice-read-k
-shared-slice-read-k c = search needs
+ones-of-requires : tie.Need-ones-of-requires
+ones-of-requires c κs = search needs
 
 take-out-requires : tie.Need-take-out-requires
 take-out-requires c κs = search needs
@@ -26,20 +22,19 @@ same-length : tie.Need-same-length
 same-length c = search needs
 
 returns : tie.Need-returns
-returns c = renew-done (c .before .before .before .before .before .before .before .before .before .before .before .before .pre .0) (c .before .before .before .before .before .before .before .before .before .before .before .before .pre .1) refl (refresh-in _ _ _ (c .before .before .before .before .if1 .taken) (c .before .before .before .before .before .before .before .take-out .ensures) (c .before .before .put-in .ensures .0))
+returns c = renew-done (c .before .before .before .before .before .before .before .before .before .before .before .before .pre .0) (c .before .before .before .before .before .before .before .before .before .before .before .before .pre .1) (c .before .before .before .before .before .before .before .before .before .ones-of .ensures) (refresh-in _ _ _ (c .before .before .before .before .if1 .taken) (c .before .before .before .before .before .before .before .take-out .ensures) (c .before .before .put-in .ensures .0))
 
 same-length-2 : tie.Need-same-length-2
 same-length-2 c = search needs
 
 returns-2 : tie.Need-returns-2
-returns-2 c = renew-done (c .before .before .before .before .before .before .before .before .pre .0) (c .before .before .before .before .before .before .before .before .pre .1) refl (refresh-not _ _ _ (c .if1 .left) (c .before .before .before .take-out .ensures))
+returns-2 c = renew-done (c .before .before .before .before .before .before .before .before .pre .0) (c .before .before .before .before .before .before .before .before .pre .1) (c .before .before .before .before .before .ones-of .ensures) (refresh-not _ _ _ (c .if1 .left) (c .before .before .before .take-out .ensures))
 
 pub refresh-spec : {M : Type 1} → statement M
 refresh-spec =
     tie.close
     (tie.spec
-    mul-k
-    shared-slice-read-k
+    ones-of-requires
     take-out-requires
     put-in-requires
     same-length

@@ -13,65 +13,103 @@ use Rattle.stepping.proofs.figures.Reads as figures-reads
 use Rattle.stepping.proofs.places.Reads as places-reads
 
 sub-e : tie.Need-sub-e
-sub-e c = omega (arith, u-fits (c .before .before .before .before .before .before .before .pre .0) (c .before .before .before .before .before .before .before .pre .1 .0))
+sub-e c =
+    let p = c .before .before .before .before .before .before .before .pre in
+    omega (arith, u-fits (p .0) (p .1 .0))
 
 sub-top : tie.Need-sub-top
 sub-top c = search needs
 
-mul-r : tie.Need-mul-r
-mul-r c = let h = x-figured (c .before .before .before .before .before .before .before .before .pre .0) (c .before .before .before .before .before .before .before .before .pre .1 .0) _ (c .before .before .before .before .before .before .before .before .pre .1 .1) in search needs
-
-slice-read-r : tie.Need-slice-read-r
-slice-read-r c = x-figured (c .before .before .before .before .before .before .before .before .before .pre .0) (c .before .before .before .before .before .before .before .before .before .pre .1 .0) _ (c .before .before .before .before .before .before .before .before .before .pre .1 .1)
+ones-of-requires : tie.Need-ones-of-requires
+ones-of-requires c κs =
+    let p = c .before .before .before .before .before .before .before .before .before .pre in
+    x-figured (p .0) (p .1 .0) _ (p .1 .1)
 
 places-requires : tie.Need-places-requires
-places-requires c κs = (bounds (c .before .before .before .before .before .before .before .before .before .before .before .pre .0) (c .before .before .before .before .before .before .before .before .before .before .before .pre .1 .0) .0, bounds (c .before .before .before .before .before .before .before .before .before .before .before .pre .0) (c .before .before .before .before .before .before .before .before .before .before .before .pre .1 .0) .1, bounds (c .before .before .before .before .before .before .before .before .before .before .before .pre .0) (c .before .before .before .before .before .before .before .before .before .before .before .pre .1 .0) .2, bounds (c .before .before .before .before .before .before .before .before .before .before .before .pre .0) (c .before .before .before .before .before .before .before .before .before .before .before .pre .1 .0) .3, x-in (c .before .before .before .before .before .before .before .before .before .before .before .pre .0) (c .before .before .before .before .before .before .before .before .before .before .before .pre .1 .0) _ (c .before .before .before .before .before .before .before .before .before .before .before .pre .1 .1), x-fits (c .before .before .before .before .before .before .before .before .before .before .before .pre .0) (c .before .before .before .before .before .before .before .before .before .before .before .pre .1 .0) _ (c .before .before .before .before .before .before .before .before .before .before .before .pre .1 .1), ones-some (c .before .before .before .before .before .before .before .before .before .before .before .pre .0) (c .before .before .before .before .before .before .before .before .before .before .before .pre .1 .0) _ (c .before .before .before .before .before .before .before .before .before .before .before .pre .1 .1), ones-is (c .before .before .before .before .before .before .before .before .before .before .before .pre .0) (c .before .before .before .before .before .before .before .before .before .before .before .pre .1 .0) _ (c .before .before .before .before .before .before .before .before .before .before .before .pre .1 .1), part-under (c .before .before .before .before .before .before .before .before .before .before .before .pre .0) (c .before .before .before .before .before .before .before .before .before .before .before .pre .1 .0) _ (c .before .before .before .before .before .before .before .before .before .before .before .pre .1 .1))
+places-requires c κs =
+    let p = c .before .before .before .before .before .before .before .before .before .before .before .before .pre in
+    let o = c .before .before .ones-of .ensures in
+    (bounds (p .0) (p .1 .0) .0, bounds (p .0) (p .1 .0) .1, bounds (p .0) (p .1 .0) .2, bounds (p .0) (p .1 .0) .3, x-in (p .0) (p .1 .0) _ (p .1 .1), x-fits (p .0) (p .1 .0) _ (p .1 .1), ones-some (p .0) (p .1 .0) _ (p .1 .1) o, ones-is (p .0) (p .1 .0) _ (p .1 .1) o, part-under (p .0) (p .1 .0) _ (p .1 .1))
 
 sub-k : tie.Need-sub-k
-sub-k c = omega (arith, bounds (c .before .before .before .before .before .before .before .before .before .before .before .before .before .before .before .before .pre .0) (c .before .before .before .before .before .before .before .before .before .before .before .before .before .before .before .before .pre .1 .0) .0)
+sub-k c =
+    let p = c .before .before .before .before .before .before .before .before .before .before .before .before .before .before .before .before .before .pre in
+    omega (arith, bounds (p .0) (p .1 .0) .0)
 
 sub-k-2 : tie.Need-sub-k-2
-sub-k-2 c = omega (arith, ones-some (c .before .before .before .before .before .before .before .before .before .before .before .before .before .before .before .before .pre .0) (c .before .before .before .before .before .before .before .before .before .before .before .before .before .before .before .before .pre .1 .0) _ (c .before .before .before .before .before .before .before .before .before .before .before .before .before .before .before .before .pre .1 .1))
+sub-k-2 c =
+    let p = c .before .before .before .before .before .before .before .before .before .before .before .before .before .before .before .before .before .pre in
+    let o = c .before .before .before .before .before .before .before .ones-of .ensures in
+    omega (arith, ones-some (p .0) (p .1 .0) _ (p .1 .1) o)
 
 sub-k-3 : tie.Need-sub-k-3
-sub-k-3 c = omega (arith, cut-room (c .before .before .before .before .before .before .before .before .before .before .before .before .before .before .before .before .pre .0) (c .before .before .before .before .before .before .before .before .before .before .before .before .before .before .before .before .pre .1 .0) _ (c .before .before .before .before .before .before .before .before .before .before .before .before .before .before .before .before .pre .1 .1))
+sub-k-3 c =
+    let p = c .before .before .before .before .before .before .before .before .before .before .before .before .before .before .before .before .before .pre in
+    let o = c .before .before .before .before .before .before .before .ones-of .ensures in
+    omega (arith, cut-room (p .0) (p .1 .0) _ (p .1 .1) o)
 
 mul-figures : tie.Need-mul-figures
-mul-figures c = let h = bounds-now (c .before .before .before .before .before .before .before .before .before .before .before .before .before .before .before .before .pre .0) (c .before .before .before .before .before .before .before .before .before .before .before .before .before .before .before .before .pre .1 .0) _ (c .before .before .before .before .before .before .before .before .before .before .before .before .before .before .before .before .pre .1 .1) (c .before .before .before .before .places .ensures .0) (c .before .before .before .before .places .ensures .1) (c .before .before .before .before .places .ensures .2) in search needs
+mul-figures c =
+    let p = c .before .before .before .before .before .before .before .before .before .before .before .before .before .before .before .before .before .pre in
+    let o = c .before .before .before .before .before .before .before .ones-of .ensures in
+    let h = bounds-now (p .0) (p .1 .0) _ (p .1 .1) o (c .before .before .before .before .places .ensures .0) (c .before .before .before .before .places .ensures .1) (c .before .before .before .before .places .ensures .2) in search needs
 
 sub-figures : tie.Need-sub-figures
-sub-figures c = omega (arith, bounds (c .before .before .before .before .before .before .before .before .before .before .before .before .before .before .before .before .pre .0) (c .before .before .before .before .before .before .before .before .before .before .before .before .before .before .before .before .pre .1 .0) .0)
+sub-figures c =
+    let p = c .before .before .before .before .before .before .before .before .before .before .before .before .before .before .before .before .before .pre in
+    omega (arith, bounds (p .0) (p .1 .0) .0)
 
 part-figures-start : tie.Need-part-figures-start
-part-figures-start c = omega (arith, bounds (c .before .before .before .before .before .before .before .before .before .before .before .before .before .before .before .before .before .pre .0) (c .before .before .before .before .before .before .before .before .before .before .before .before .before .before .before .before .before .pre .1 .0) .0)
+part-figures-start c =
+    let p = c .before .before .before .before .before .before .before .before .before .before .before .before .before .before .before .before .before .before .pre in
+    omega (arith, bounds (p .0) (p .1 .0) .0)
 
 part-figures-end : tie.Need-part-figures-end
 part-figures-end c = search needs
 
 mul-figures-2 : tie.Need-mul-figures-2
-mul-figures-2 c = let h = bounds-now (c .before .before .before .before .before .before .before .before .before .before .before .before .before .before .before .before .before .before .pre .0) (c .before .before .before .before .before .before .before .before .before .before .before .before .before .before .before .before .before .before .pre .1 .0) _ (c .before .before .before .before .before .before .before .before .before .before .before .before .before .before .before .before .before .before .pre .1 .1) (c .before .before .before .before .before .before .places .ensures .0) (c .before .before .before .before .before .before .places .ensures .1) (c .before .before .before .before .before .before .places .ensures .2) in search needs
+mul-figures-2 c =
+    let p = c .before .before .before .before .before .before .before .before .before .before .before .before .before .before .before .before .before .before .before .pre in
+    let o = c .before .before .before .before .before .before .before .before .before .ones-of .ensures in
+    let h = bounds-now (p .0) (p .1 .0) _ (p .1 .1) o (c .before .before .before .before .before .before .places .ensures .0) (c .before .before .before .before .before .before .places .ensures .1) (c .before .before .before .before .before .before .places .ensures .2) in search needs
 
 sub-figures-2 : tie.Need-sub-figures-2
-sub-figures-2 c = omega (arith, bounds (c .before .before .before .before .before .before .before .before .before .before .before .before .before .before .before .before .before .before .pre .0) (c .before .before .before .before .before .before .before .before .before .before .before .before .before .before .before .before .before .before .pre .1 .0) .2)
+sub-figures-2 c =
+    let p = c .before .before .before .before .before .before .before .before .before .before .before .before .before .before .before .before .before .before .before .pre in
+    omega (arith, bounds (p .0) (p .1 .0) .2)
 
 part-figures-start-2 : tie.Need-part-figures-start-2
-part-figures-start-2 c = omega (arith, bounds (c .before .before .before .before .before .before .before .before .before .before .before .before .before .before .before .before .before .before .before .pre .0) (c .before .before .before .before .before .before .before .before .before .before .before .before .before .before .before .before .before .before .before .pre .1 .0) .2)
+part-figures-start-2 c =
+    let p = c .before .before .before .before .before .before .before .before .before .before .before .before .before .before .before .before .before .before .before .before .pre in
+    omega (arith, bounds (p .0) (p .1 .0) .2)
 
 part-figures-end-2 : tie.Need-part-figures-end-2
 part-figures-end-2 c = search needs
 
 figures-requires : tie.Need-figures-requires
 unfolding part
-figures-requires c κs = due-then (c .before .before .before .before .before .before .before .before .before .before .before .before .before .before .before .before .before .before .before .before .before .before .before .pre .0) (c .before .before .before .before .before .before .before .before .before .before .before .before .before .before .before .before .before .before .before .before .before .before .before .pre .1 .0) _ (c .before .before .before .before .before .before .before .before .before .before .before .before .before .before .before .before .before .before .before .before .before .before .before .pre .1 .1) (c .before .before .before .before .before .before .before .before .before .before .before .places .ensures .0) (c .before .before .before .before .before .before .before .before .before .before .before .places .ensures .1) (c .before .before .before .before .before .before .before .before .before .before .before .places .ensures .2)
+figures-requires c κs =
+    let p = c .before .before .before .before .before .before .before .before .before .before .before .before .before .before .before .before .before .before .before .before .before .before .before .before .pre in
+    let o = c .before .before .before .before .before .before .before .before .before .before .before .before .before .before .ones-of .ensures in
+    due-then (p .0) (p .1 .0) _ (p .1 .1) o (c .before .before .before .before .before .before .before .before .before .before .before .places .ensures .0) (c .before .before .before .before .before .before .before .before .before .before .before .places .ensures .1) (c .before .before .before .before .before .before .before .before .before .before .before .places .ensures .2)
 
-add-t18 : tie.Need-add-t18
-add-t18 c = omega (arith, i-next (c .before .before .before .before .before .before .before .before .before .before .before .before .before .before .before .before .before .before .before .before .before .before .before .before .before .before .before .before .before .before .pre .0) (c .before .before .before .before .before .before .before .before .before .before .before .before .before .before .before .before .before .before .before .before .before .before .before .before .before .before .before .before .before .before .pre .1 .0) _ (c .before .before .before .before .before .before .before .before .before .before .before .before .before .before .before .before .before .before .before .before .before .before .before .before .before .before .before .before .before .before .pre .1 .1))
+add-t25 : tie.Need-add-t25
+add-t25 c =
+    let p = c .before .before .before .before .before .before .before .before .before .before .before .before .before .before .before .before .before .before .before .before .before .before .before .before .before .before .before .before .before .before .before .pre in
+    let o = c .before .before .before .before .before .before .before .before .before .before .before .before .before .before .before .before .before .before .before .before .before .ones-of .ensures in
+    omega (arith, i-next (p .0) (p .1 .0) _ (p .1 .1) o)
 
-sub-t31 : tie.Need-sub-t31
-sub-t31 c = omega (arith, ones-some (c .before .before .before .before .before .before .before .before .before .before .before .before .before .before .before .before .before .before .before .before .before .before .before .before .before .before .before .before .before .before .pre .0) (c .before .before .before .before .before .before .before .before .before .before .before .before .before .before .before .before .before .before .before .before .before .before .before .before .before .before .before .before .before .before .pre .1 .0) _ (c .before .before .before .before .before .before .before .before .before .before .before .before .before .before .before .before .before .before .before .before .before .before .before .before .before .before .before .before .before .before .pre .1 .1))
+sub-t32 : tie.Need-sub-t32
+sub-t32 c =
+    let p = c .before .before .before .before .before .before .before .before .before .before .before .before .before .before .before .before .before .before .before .before .before .before .before .before .before .before .before .before .before .before .before .pre in
+    let o = c .before .before .before .before .before .before .before .before .before .before .before .before .before .before .before .before .before .before .before .before .before .ones-of .ensures in
+    omega (arith, ones-some (p .0) (p .1 .0) _ (p .1 .1) o)
 
-add-t29 : tie.Need-add-t29
-add-t29 c = omega (arith, u-next (c .before .before .before .before .before .before .before .before .before .before .before .before .before .before .before .before .before .before .before .before .before .before .before .before .before .before .before .before .before .before .before .pre .0) (c .before .before .before .before .before .before .before .before .before .before .before .before .before .before .before .before .before .before .before .before .before .before .before .before .before .before .before .before .before .before .before .pre .1 .0) _ (c .before .before .before .before .before .before .before .before .before .before .before .before .before .before .before .before .before .before .before .before .before .before .before .before .before .before .before .before .before .before .before .pre .1 .1))
+add-t30 : tie.Need-add-t30
+add-t30 c =
+    let p = c .before .before .before .before .before .before .before .before .before .before .before .before .before .before .before .before .before .before .before .before .before .before .before .before .before .before .before .before .before .before .before .before .pre in
+    let o = c .before .before .before .before .before .before .before .before .before .before .before .before .before .before .before .before .before .before .before .before .before .before .ones-of .ensures in
+    omega (arith, u-next (p .0) (p .1 .0) _ (p .1 .1) o)
 
 same-length : tie.Need-same-length
 same-length c = search needs
@@ -90,7 +128,10 @@ same-length-5 c = search needs
 
 returns : tie.Need-returns
 unfolding part
-returns c = (refl, stepped-on _ _ _ _ (c .before .before .before .before .before .before .before .before .before .before .before .before .before .before .before .before .before .before .before .before .before .before .before .before .before .before .before .before .before .before .before .pre .1 .1) (stands-next (c .before .before .before .before .before .before .before .before .before .before .before .before .before .before .before .before .before .before .before .before .before .before .before .before .before .before .before .before .before .before .before .pre .0) (c .before .before .before .before .before .before .before .before .before .before .before .before .before .before .before .before .before .before .before .before .before .before .before .before .before .before .before .before .before .before .before .pre .1 .0) _ (c .before .before .before .before .before .before .before .before .before .before .before .before .before .before .before .before .before .before .before .before .before .before .before .before .before .before .before .before .before .before .before .pre .1 .1) (c .before .before .before .before .before .before .before .before .before .before .before .before .before .before .before .before .before .before .before .places .ensures .0) (c .before .before .before .before .before .before .before .before .before .before .before .before .before .before .before .before .before .before .before .places .ensures .1) (c .before .before .before .before .before .before .before .before .before .before .before .before .before .before .before .before .before .before .before .places .ensures .2) (c .before .before .before .before .before .before .before .figures .ensures)))
+returns c =
+    let p = c .before .before .before .before .before .before .before .before .before .before .before .before .before .before .before .before .before .before .before .before .before .before .before .before .before .before .before .before .before .before .before .before .pre in
+    let o = c .before .before .before .before .before .before .before .before .before .before .before .before .before .before .before .before .before .before .before .before .before .before .ones-of .ensures in
+    (refl, stepped-on _ _ _ _ (p .1 .1) (stands-next (p .0) (p .1 .0) _ (p .1 .1) o (c .before .before .before .before .before .before .before .before .before .before .before .before .before .before .before .before .before .before .before .places .ensures .0) (c .before .before .before .before .before .before .before .before .before .before .before .before .before .before .before .before .before .before .before .places .ensures .1) (c .before .before .before .before .before .before .before .before .before .before .before .before .before .before .before .before .before .before .before .places .ensures .2) (c .before .before .before .before .before .before .before .figures .ensures)))
 
 pub step-spec : {M : Type 1} → statement M
 step-spec =
@@ -98,8 +139,7 @@ step-spec =
     (tie.spec
     sub-e
     sub-top
-    mul-r
-    slice-read-r
+    ones-of-requires
     places-requires
     sub-k
     sub-k-2
@@ -113,9 +153,9 @@ step-spec =
     part-figures-start-2
     part-figures-end-2
     figures-requires
-    add-t18
-    sub-t31
-    add-t29
+    add-t25
+    sub-t32
+    add-t30
     same-length
     same-length-2
     same-length-3

@@ -10,7 +10,6 @@ use Rattle.stepping.proofs.turn.Tie as tie
 use Rattle.stepping.proofs.turn.Reads as reads
 use Rattle.stepping.proofs.turn.Lts as lts
 use Rattle.choice.proofs.choose.Reads as choose-reads
-use Rattle.choice.proofs.least_positive.Reads as least-positive-reads
 use Rattle.stepping.proofs.step.Reads as step-reads
 
 sub-e : tie.Need-sub-e
