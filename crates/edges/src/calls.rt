@@ -20,7 +20,7 @@ use programs::WORK_ROOM;
 use programs::at_most;
 
 // Puts the bytes at the front of a room.
-pub fn copy(from: &[u8], to: &mut [u8]) {
+pub(crate) fn copy(from: &[u8], to: &mut [u8]) {
     let mut i = 0;
     while i < from.len() {
         if to.len() <= i {
@@ -169,7 +169,7 @@ fn solve_in(
 }
 
 // The call over working rooms of its own, cut to what is to be lent.
-pub fn call(
+pub(crate) fn call(
     l: Lent,
     bits: &[u8],
     octets: &[u8],
@@ -283,7 +283,7 @@ fn see(
 }
 
 // A further call; solved, list, order and vector are as the first call left them.
-pub fn again(
+pub(crate) fn again(
     l: Lent,
     bits: &[u8],
     octets: &[u8],

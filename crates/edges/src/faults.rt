@@ -13,7 +13,7 @@ use programs::put;
 use solver::Rooms;
 
 // One less, or 0.
-pub fn less(n: usize) -> usize {
+pub(crate) fn less(n: usize) -> usize {
     if n < 1 {
         return 0;
     }
@@ -21,7 +21,7 @@ pub fn less(n: usize) -> usize {
 }
 
 // Whether a call was refused with this number, and changed nothing.
-pub fn is_refused(e: Seen, refusal: usize) -> bool {
+pub(crate) fn is_refused(e: Seen, refusal: usize) -> bool {
     let a = e.answer;
     both(e.unchanged, solver::number(a) == refusal)
 }
@@ -44,7 +44,7 @@ fn shorter(r: Rooms, which: usize) -> Rooms {
 }
 
 // A call with one room shorter, or with another fault or two. The last one is for octet rows that are given.
-pub fn tried(l: Lent, which: usize) -> Lent {
+pub(crate) fn tried(l: Lent, which: usize) -> Lent {
     let mut x = l;
     match which {
         0 => x.order = less(l.order),
@@ -146,7 +146,7 @@ fn count_tried(n: usize, which: usize, e: Seen) -> usize {
 }
 
 // How many such calls are refused.
-pub fn refused(
+pub(crate) fn refused(
     l: Lent,
     from: usize,
     end: usize,

@@ -20,7 +20,7 @@ fn with_list(l: Lent, n: usize) -> Lent {
 }
 
 // Whether a call is as the first one.
-pub fn is_same(e: Seen, first: Answer) -> bool {
+pub(crate) fn is_same(e: Seen, first: Answer) -> bool {
     let a = e.answer;
     both(e.same, same_answer(a, first))
 }
@@ -32,7 +32,7 @@ fn is_full(e: Seen) -> bool {
 }
 
 // The smallest list room that is not too short.
-pub fn halve(
+pub(crate) fn halve(
     l: Lent,
     first: Answer,
     bits: &[u8],
@@ -76,7 +76,7 @@ pub fn halve(
 }
 
 // One more where the list room one shorter is too short; no more where there is no shorter one.
-pub fn short_list(
+pub(crate) fn short_list(
     n: usize,
     l: Lent,
     bits: &[u8],

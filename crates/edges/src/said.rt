@@ -9,7 +9,7 @@ use solver::Answer;
 const MOST_COUNT: usize = 1000000;
 
 // One more; no count gets near the most.
-pub fn more(n: usize) -> usize {
+pub(crate) fn more(n: usize) -> usize {
     if n < MOST_COUNT {
         return n + 1;
     }
@@ -17,13 +17,13 @@ pub fn more(n: usize) -> usize {
 }
 
 // The end of a line on what is wrong.
-pub fn put_answer(a: Answer) {
+pub(crate) fn put_answer(a: Answer) {
     put_count(b" answer ", solver::number(a));
     put(b"\n");
 }
 
 // One more where what was tried at a place is right; else it is said to be wrong.
-pub fn count_at(n: usize, right: bool, what: &[u8], place: usize, a: Answer) -> usize {
+pub(crate) fn count_at(n: usize, right: bool, what: &[u8], place: usize, a: Answer) -> usize {
     if right {
         return more(n);
     }
@@ -34,7 +34,7 @@ pub fn count_at(n: usize, right: bool, what: &[u8], place: usize, a: Answer) -> 
 }
 
 // Whether it is right; where not, that is said.
-pub fn is_right(right: bool, what: &[u8], a: Answer) -> bool {
+pub(crate) fn is_right(right: bool, what: &[u8], a: Answer) -> bool {
     if right {
         return true;
     }
@@ -51,7 +51,7 @@ fn put_if(right: bool, word: &[u8]) {
 }
 
 // A case's line.
-pub fn put_case(name: &[u8], c: Compared) {
+pub(crate) fn put_case(name: &[u8], c: Compared) {
     put(name);
     put_count(b" answer ", c.answer);
     put_count(b" length ", c.length);

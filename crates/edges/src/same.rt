@@ -4,7 +4,7 @@ use solver::Counts;
 use solver::Report;
 
 // Whether both are so.
-pub fn both(a: bool, b: bool) -> bool {
+pub(crate) fn both(a: bool, b: bool) -> bool {
     if a {
         return b;
     }
@@ -12,7 +12,7 @@ pub fn both(a: bool, b: bool) -> bool {
 }
 
 // Whether one of them is so.
-pub fn either(a: bool, b: bool) -> bool {
+pub(crate) fn either(a: bool, b: bool) -> bool {
     if a {
         return true;
     }
@@ -30,7 +30,7 @@ fn long(x: usize) -> u64 {
 }
 
 // Whether every byte is this number.
-pub fn bytes_are(s: &[u8], x: usize) -> bool {
+pub(crate) fn bytes_are(s: &[u8], x: usize) -> bool {
     let mut i = 0;
     while i < s.len() {
         if wide(s[i]) != x {
@@ -54,7 +54,7 @@ fn words_are(s: &[u64], x: usize) -> bool {
 }
 
 // Whether every number is this one.
-pub fn numbers_are(s: &[usize], x: usize) -> bool {
+pub(crate) fn numbers_are(s: &[usize], x: usize) -> bool {
     let mut i = 0;
     while i < s.len() {
         if s[i] != x {
@@ -66,7 +66,7 @@ pub fn numbers_are(s: &[usize], x: usize) -> bool {
 }
 
 // Whether s begins with these bytes.
-pub fn bytes_begin(s: &[u8], part: &[u8]) -> bool {
+pub(crate) fn bytes_begin(s: &[u8], part: &[u8]) -> bool {
     if s.len() < part.len() {
         return false;
     }
@@ -139,7 +139,7 @@ fn same_report(a: Report, b: Report) -> bool {
 }
 
 // Whether two answers are the same, with what they report.
-pub fn same_answer(a: Answer, b: Answer) -> bool {
+pub(crate) fn same_answer(a: Answer, b: Answer) -> bool {
     match a {
         Answer::Solved(r) => match b {
             Answer::Solved(q) => same_report(r, q),
@@ -150,7 +150,7 @@ pub fn same_answer(a: Answer, b: Answer) -> bool {
 }
 
 // Whether every entry of list, order and vector is this number.
-pub fn outputs_are(list: &[u64], order: &[usize], vector: &[u8], x: usize) -> bool {
+pub(crate) fn outputs_are(list: &[u64], order: &[usize], vector: &[u8], x: usize) -> bool {
     if !words_are(list, x) {
         return false;
     }
@@ -161,7 +161,7 @@ pub fn outputs_are(list: &[u64], order: &[usize], vector: &[u8], x: usize) -> bo
 }
 
 // Whether the buffers begin those of the first call.
-pub fn outputs_begin(
+pub(crate) fn outputs_begin(
     solved: &[u8],
     list: &[u64],
     order: &[usize],

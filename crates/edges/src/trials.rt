@@ -287,7 +287,7 @@ fn first_call(
 }
 
 // A case that is within the bounds.
-pub fn try_calls(
+pub(crate) fn try_calls(
     s: System,
     g: Sizes,
     rooms: Rooms,

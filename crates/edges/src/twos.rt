@@ -104,7 +104,7 @@ fn try_two(
 }
 
 // How many calls with a 2 in the binary matrix are right.
-pub fn twos_right(
+pub(crate) fn twos_right(
     l: Lent,
     g: Sizes,
     first: Answer,

@@ -1,11 +1,16 @@
 // The call over working rooms for any system within the bounds.
+ghost use mathlib.Core.Path.{_≡_};
+ghost use Rattle.call.specs.Call.{rowsOf};
+ghost use Rattle.programs.specs.Calls.{given as rowsGiven, Called, Solves};
 use crate::writing::at_most;
 use solver::Answer;
 use solver::OctetRows;
 use systems::System;
 
 // What a case says of its octet rows.
-pub fn octet_rows(given: bool) -> OctetRows {
+pub fn octet_rows(given: bool) -> OctetRows
+    ensures { λ r. ⌜ r ≡ rowsGiven given ⌝ }
+{
     if given {
         return OctetRows::Given;
     }
@@ -21,7 +26,9 @@ fn call(
     list: &mut [u64],
     order: &mut [usize],
     vector: &mut [u8],
-) -> Answer {
+) -> Answer
+    ensures { λ r. ⌜ Called (s .k) (s .m) (s .t) (now (bits .entry)) (rowsOf (rowsGiven (s .octet)) (now (octets .entry))) (now (slab .entry)) (now (list .entry)) (now (order .entry)) (now (vector .entry)) r (now (slab .exit)) (now (list .exit)) (now (order .exit)) (now (vector .exit)) ⌝ }
+{
     let mut work = [0u8; crate::WORK_ROOM];
     let mut scratch = [0u8; crate::LINE_ROOM];
     let mut columns = [0usize; crate::LINE_ROOM];
@@ -63,7 +70,9 @@ pub fn solve_case(
     list: &mut [u64],
     order: &mut [usize],
     vector: &mut [u8],
-) -> Answer {
+) -> Answer
+    ensures { λ r. ⌜ Solves s (now (bits .entry)) (now (octets .entry)) (now (slab .entry)) (now (list .entry)) (now (order .entry)) (now (vector .entry)) r (now (slab .exit)) (now (list .exit)) (now (order .exit)) (now (vector .exit)) ⌝ }
+{
     let b = at_most(s.bits, bits.len());
     let o = at_most(s.octets, octets.len());
     let n = at_most(s.slab, slab.len());

@@ -2,6 +2,7 @@
 ghost use mathlib.Core.Path.{_≡_};
 ghost use Prim.Native.Nat.{_+_, _*_, _≤_, _<_};
 ghost use lib.ListN.{length};
+ghost use Rattle.programs.specs.Calls.{atMost};
 use libc::STDOUT_FILENO;
 use systems::Place;
 
@@ -75,7 +76,8 @@ pub fn put_bytes(bytes: &[u8]) {
 
 // The number, or the most that is asked for.
 pub fn at_most(n: usize, most: usize) -> usize
-    ensures { λ r. ⌜ r ≤ most ⌝ }
+    ensures within { λ r. ⌜ r ≤ most ⌝ }
+    ensures is { λ r. ⌜ r ≡ atMost n most ⌝ }
 {
     if n < most { n } else { most }
 }

@@ -23,7 +23,7 @@ fn is_digit(c: u8) -> bool {
 }
 
 // The place of the first digit from at on, or the input's end.
-pub fn seek(text: &[u8], at: usize) -> usize
+pub(crate) fn seek(text: &[u8], at: usize) -> usize
     ensures { λ r. ⌜ at ≤ r ⌝ }
 {
     let mut i = at;
@@ -48,7 +48,7 @@ fn digit(c: u8) -> u64
 }
 
 // The first number from at on.
-pub fn read(text: &[u8], at: usize) -> Number
+pub(crate) fn read(text: &[u8], at: usize) -> Number
     ensures { λ r. ⌜ at ≤ r .next ⌝ }
 {
     let mut i = seek(text, at);
@@ -79,7 +79,7 @@ fn word(text: &[u8], at: usize) -> Number {
 }
 
 // The number, or the most that is asked for.
-pub fn at_most(value: u64, most: usize) -> usize
+pub(crate) fn at_most(value: u64, most: usize) -> usize
     ensures { λ r. ⌜ r ≤ most ⌝ }
 {
     let n = value as usize;
@@ -90,7 +90,7 @@ pub fn at_most(value: u64, most: usize) -> usize
 }
 
 // Reads a list.
-pub fn fill_list(text: &[u8], at: usize, list: &mut [u64]) -> Filled
+pub(crate) fn fill_list(text: &[u8], at: usize, list: &mut [u64]) -> Filled
     ensures { λ r. ⌜ r .count ≤ length (now (list .exit)) ⌝ }
 {
     let first = read(text, at);
@@ -107,7 +107,7 @@ pub fn fill_list(text: &[u8], at: usize, list: &mut [u64]) -> Filled
 }
 
 // Reads an order.
-pub fn fill_rows(text: &[u8], at: usize, rows: &mut [usize]) -> Filled
+pub(crate) fn fill_rows(text: &[u8], at: usize, rows: &mut [usize]) -> Filled
     ensures { λ r. ⌜ r .count ≤ length (now (rows .exit)) ⌝ }
 {
     let first = read(text, at);
@@ -124,14 +124,14 @@ pub fn fill_rows(text: &[u8], at: usize, rows: &mut [usize]) -> Filled
 }
 
 // The low eight digits of a number.
-pub fn narrow(value: u64) -> u8
+pub(crate) fn narrow(value: u64) -> u8
     ensures { λ r. ⌜ r ≡ value % 256 ⌝ }
 {
     (value % 256) as u8
 }
 
 // Reads a slab.
-pub fn fill_bytes(text: &[u8], at: usize, bytes: &mut [u8]) -> Filled
+pub(crate) fn fill_bytes(text: &[u8], at: usize, bytes: &mut [u8]) -> Filled
     ensures { λ r. ⌜ r .count ≤ length (now (bytes .exit)) ⌝ }
 {
     let first = read(text, at);

@@ -12,10 +12,10 @@ at-most-requires-2 : tie.Need-at-most-requires-2
 at-most-requires-2 c κs = search needs
 
 mul-result : tie.Need-mul-result
-mul-result c = omega (arith, mul-le-mul (c .before .at-most .ensures) (c .at-most2 .ensures))
+mul-result c = omega (arith, mul-le-mul (c .before .at-most .ensures .0) (c .at-most2 .ensures .0))
 
 returns : tie.Need-returns
-returns c = mul-le-mul (c .before .at-most .ensures) (c .at-most2 .ensures)
+returns c = mul-le-mul (c .before .at-most .ensures .0) (c .at-most2 .ensures .0)
 
 pub row-start-spec : {M : Type 1} → statement M
 row-start-spec = tie.close (tie.spec at-most-requires at-most-requires-2 mul-result returns)

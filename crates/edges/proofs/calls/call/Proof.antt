@@ -41,7 +41,7 @@ part-work-start : tie.Need-part-work-start
 part-work-start c = zero-least _
 
 part-work-end : tie.Need-part-work-end
-part-work-end c = c .before .before .before .before .before .before .before .before .before .before .before .before .at-most .ensures
+part-work-end c = c .before .before .before .before .before .before .before .before .before .before .before .before .at-most .ensures .0
 
 sub-solve-in-2 : tie.Need-sub-solve-in-2
 sub-solve-in-2 c = zero-least _
@@ -50,7 +50,7 @@ part-scratch-start : tie.Need-part-scratch-start
 part-scratch-start c = zero-least _
 
 part-scratch-end : tie.Need-part-scratch-end
-part-scratch-end c = c .before .before .before .before .before .before .before .before .before .before .before .before .at-most2 .ensures
+part-scratch-end c = c .before .before .before .before .before .before .before .before .before .before .before .before .at-most2 .ensures .0
 
 sub-solve-in-3 : tie.Need-sub-solve-in-3
 sub-solve-in-3 c = zero-least _
@@ -59,7 +59,7 @@ part-columns-start : tie.Need-part-columns-start
 part-columns-start c = zero-least _
 
 part-columns-end : tie.Need-part-columns-end
-part-columns-end c = c .before .before .before .before .before .before .before .before .before .before .before .before .at-most3 .ensures
+part-columns-end c = c .before .before .before .before .before .before .before .before .before .before .before .before .at-most3 .ensures .0
 
 sub-solve-in-4 : tie.Need-sub-solve-in-4
 sub-solve-in-4 c = zero-least _
@@ -68,7 +68,7 @@ part-rows-start : tie.Need-part-rows-start
 part-rows-start c = zero-least _
 
 part-rows-end : tie.Need-part-rows-end
-part-rows-end c = c .before .before .before .before .before .before .before .before .before .before .before .before .at-most4 .ensures
+part-rows-end c = c .before .before .before .before .before .before .before .before .before .before .before .before .at-most4 .ensures .0
 
 sub-solve-in-5 : tie.Need-sub-solve-in-5
 sub-solve-in-5 c = zero-least _
@@ -77,7 +77,7 @@ part-ones-start : tie.Need-part-ones-start
 part-ones-start c = zero-least _
 
 part-ones-end : tie.Need-part-ones-end
-part-ones-end c = c .before .before .before .before .before .before .before .before .before .before .before .before .at-most5 .ensures
+part-ones-end c = c .before .before .before .before .before .before .before .before .before .before .before .before .at-most5 .ensures .0
 
 sub-solve-in-6 : tie.Need-sub-solve-in-6
 sub-solve-in-6 c = zero-least _
@@ -86,7 +86,7 @@ part-degrees-start : tie.Need-part-degrees-start
 part-degrees-start c = zero-least _
 
 part-degrees-end : tie.Need-part-degrees-end
-part-degrees-end c = c .before .before .before .before .before .before .before .before .before .before .before .before .at-most6 .ensures
+part-degrees-end c = c .before .before .before .before .before .before .before .before .before .before .before .before .at-most6 .ensures .0
 
 sub-solve-in-7 : tie.Need-sub-solve-in-7
 sub-solve-in-7 c = zero-least _
@@ -95,7 +95,7 @@ part-singles-start : tie.Need-part-singles-start
 part-singles-start c = zero-least _
 
 part-singles-end : tie.Need-part-singles-end
-part-singles-end c = c .before .before .before .before .before .before .before .before .before .before .before .before .at-most7 .ensures
+part-singles-end c = c .before .before .before .before .before .before .before .before .before .before .before .before .at-most7 .ensures .0
 
 sub-solve-in-8 : tie.Need-sub-solve-in-8
 sub-solve-in-8 c = zero-least _
@@ -104,7 +104,7 @@ part-labels-start : tie.Need-part-labels-start
 part-labels-start c = zero-least _
 
 part-labels-end : tie.Need-part-labels-end
-part-labels-end c = c .before .before .before .before .before .before .before .before .before .before .before .before .at-most8 .ensures
+part-labels-end c = c .before .before .before .before .before .before .before .before .before .before .before .before .at-most8 .ensures .0
 
 sub-solve-in-9 : tie.Need-sub-solve-in-9
 sub-solve-in-9 c = zero-least _
@@ -113,7 +113,7 @@ part-sizes-start : tie.Need-part-sizes-start
 part-sizes-start c = zero-least _
 
 part-sizes-end : tie.Need-part-sizes-end
-part-sizes-end c = c .before .before .before .before .before .before .before .before .before .before .before .before .at-most9 .ensures
+part-sizes-end c = c .before .before .before .before .before .before .before .before .before .before .before .before .at-most9 .ensures .0
 
 solve-in-requires : tie.Need-solve-in-requires
 solve-in-requires c κs = tt
