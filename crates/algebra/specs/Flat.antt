@@ -5,6 +5,7 @@
 --   fits                        a row below m lies within the slab
 --   length-row, getD-row        a row below m has w entries, and its entry t is what column t has there
 --   zip f xs ys                 two lists joined entry by entry, as far as the shorter goes
+--   length-zip, getD-zip        how long that is, and its entries
 --   written w o l               what the operation o puts into the row that it writes
 --   act w o l, acts w os l      the slab after the operation o; after the list os
 --   length-act, view-act        an operation keeps the length, and does `step` to each column
@@ -63,12 +64,12 @@ unfoldable pub acts : ℕ → List Op → List ℕ → List ℕ
 acts w [] l = l
 acts w (o ∷ os) l = acts w os (act w o l)
 
-length-zip : (f : ℕ → ℕ → ℕ) (xs ys : List ℕ) → length xs ≡ length ys → length (zip f xs ys) ≡ length xs
+pub length-zip : (f : ℕ → ℕ → ℕ) (xs ys : List ℕ) → length xs ≡ length ys → length (zip f xs ys) ≡ length xs
 length-zip f [] ys e = refl
 length-zip f (x ∷ xs) [] e = sym e
 length-zip f (x ∷ xs) (y ∷ ys) e = ap suc (length-zip f xs ys (omega arith))
 
-getD-zip : (f : ℕ → ℕ → ℕ) (xs ys : List ℕ) (k : ℕ) → k < length xs → k < length ys → getD (zip f xs ys) k 0 ≡ f (getD xs k 0) (getD ys k 0)
+pub getD-zip : (f : ℕ → ℕ → ℕ) (xs ys : List ℕ) (k : ℕ) → k < length xs → k < length ys → getD (zip f xs ys) k 0 ≡ f (getD xs k 0) (getD ys k 0)
 getD-zip f [] ys k p q = absurd (not-suc-le-zero p)
 getD-zip f (x ∷ xs) [] k p q = absurd (not-suc-le-zero q)
 getD-zip f (x ∷ xs) (y ∷ ys) zero p q = refl

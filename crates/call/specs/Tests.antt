@@ -1,6 +1,6 @@
 -- The tests of a call, as the code makes them.
---   Sofar            the entries before k are 0 or 1: what the test knows at its turn
---   sofar-start, sofar-next, sofar-bad, sofar-end   it begins, makes a turn, fails, is over
+--   Sofar            the entries before k are 0 or 1 or not: what the test knows at its turn
+--   sofar-start, sofar-next, sofar-bad, sofar-end   it begins, passes such an entry, passes another, is over
 --   front-fits, back-fits   what stands before the octet rows, and after them, lies in the matrix
 --   entered-front, entered-back   the test of both decides
 -- Assumes nothing.
@@ -17,27 +17,35 @@ use lib.Seq.{take-all}
 use Rattle.loops.specs.Part.{drop-next}
 use Rattle.call.specs.Call.{bitwise, entered}
 
-pub record Sofar (xs : List ℕ) (k : ℕ) : Type 0 where
+pub record Sofar (xs : List ℕ) (fine : Bool) (k : ℕ) : Type 0 where
   pub within : k ≤ length xs
-  pub is : bitwise xs ≡ bitwise (drop k xs)
+  pub is : bitwise xs ≡ (fine && bitwise (drop k xs))
 
-pub sofar-start : (xs : List ℕ) → Sofar xs 0
+pub sofar-start : (xs : List ℕ) → Sofar xs true 0
 sofar-start xs = record { within = omega arith; is = refl }
 
-module _ {xs : List ℕ} {k : ℕ} (s : Sofar xs k) where
-  bitwise-next : k < length xs → bitwise xs ≡ (leb (getD xs k 0) 1 && bitwise (drop (k + 1) xs))
-  unfolding bitwise
-  bitwise-next h = s .is ∙ ap bitwise (drop-next xs k h)
+and-false : (b : Bool) → (b && false) ≡ false
+and-false true = refl
+and-false false = refl
 
-  pub sofar-next : k < length xs → getD xs k 0 ≤ 1 → Sofar xs (k + 1)
+and-true : (b : Bool) → (b && true) ≡ b
+and-true true = refl
+and-true false = refl
+
+module _ {xs : List ℕ} {fine : Bool} {k : ℕ} (s : Sofar xs fine k) where
+  bitwise-next : k < length xs → bitwise xs ≡ (fine && (leb (getD xs k 0) 1 && bitwise (drop (k + 1) xs)))
+  unfolding bitwise
+  bitwise-next h = s .is ∙ ap (λ (l : List ℕ). fine && bitwise l) (drop-next xs k h)
+
+  pub sofar-next : k < length xs → getD xs k 0 ≤ 1 → Sofar xs fine (k + 1)
   sofar-next h e = record { within = omega arith; is = rw (le-leb _ _ e) at (bitwise-next h) }
 
-  pub sofar-bad : k < length xs → 1 < getD xs k 0 → false ≡ bitwise xs
-  sofar-bad h e = sym (rw (lt-leb _ _ e) at (bitwise-next h))
+  pub sofar-bad : k < length xs → 1 < getD xs k 0 → Sofar xs false (k + 1)
+  sofar-bad h e = record { within = omega arith; is = (rw (lt-leb _ _ e) at (bitwise-next h)) ∙ and-false fine }
 
-  pub sofar-end : length xs ≤ k → true ≡ bitwise xs
+  pub sofar-end : length xs ≤ k → fine ≡ bitwise xs
   unfolding bitwise
-  sofar-end h = sym (s .is ∙ ap bitwise (drop-of-length-le xs h))
+  sofar-end h = sym (s .is ∙ ap (λ (l : List ℕ). fine && bitwise l) (drop-of-length-le xs h) ∙ and-true fine)
 
 module _ (m l s h : ℕ) (bits : List ℕ) (size : length bits ≡ m * l) (rows : s + h ≤ m) where
   pub front-fits : s * l ≤ length bits

@@ -44,18 +44,19 @@ pub fn is_shaped(
     slab == m * t
 }
 
-// Whether every entry is 0 or 1.
+// Whether every entry is 0 or 1. It goes on after one that is not, so that the loop becomes vector code.
 fn is_binary(bits: &[u8]) -> bool
     ensures { λ r. ⌜ r ≡ bitwise (now (bits .entry)) ⌝ }
 {
+    let mut fine = true;
     let mut k = 0;
     while k < bits.len() {
         if 1 < bits[k] {
-            return false;
+            fine = false;
         }
         k += 1;
     }
-    true
+    fine
 }
 
 // Whether every entry of the m rows outside the octet rows is 0 or 1.

@@ -5,10 +5,9 @@
 --   next-new                 the next label grows by one where neither column has a label
 --   next-second, next-first  it stays where the second, or the first, has one
 --   Part                     the loop over columns: those below c have their new labels, the others are as they were
---   part-start, part-set, part-skip, part-end   that begins, gives a column the joint label, passes one, is over: each label is the definition's
---   hit-p, hit-q             the test: yes for the first column of the pair, and for the second
---   hit-none                 no for another column without a label
---   hit-a, hit-b             for another column with a label: yes if it is the first's; if it is not, whether it is the second's
+--   part-start, part-next, part-end   that begins, gives a column its new label, is over: each label is the definition's
+--   alike                    where the pair does not bring two labels together only its own columns change
+--   renamed-a, renamed-b, renamed-none   the label of a column, by the code's tests
 -- Assumes nothing.
 use mathlib.Core.Path.{_≡_, refl, sym, ap, subst, _∙_}
 use mathlib.Core.Logic.{_⊎_, inl, inr, ⊎-elim}
@@ -23,7 +22,7 @@ use borrow.Author.Tests.{eqb-true, eqb-false, eq-eqb, ne-eqb, lt-ltb, le-ltb, lt
 use Rattle.rule.specs.Labels.{or-l, or-r}
 use Rattle.rule.specs.Rule.{joint, nextLabel, relabel, touched}
 use Rattle.rule.specs.Sets.{bool-or}
-use Rattle.labels.specs.Labs.{labs, hit}
+use Rattle.labels.specs.Labs.{labs, Alike}
 
 pub joint-new : (a b n : ℕ) → a ≡ 0 → b ≡ 0 → n ≡ joint a b n
 joint-new a b n e f = rw (e, f)
@@ -82,28 +81,36 @@ below l₀ l n p q c h e k i =
     ⊎-elim (λ t. subst (λ (w : ℕ). labs l w ≡ relabel (labs l₀) n p q w) (sym (eqb-true k c t)) e)
     (λ t. let z : (k ≡ c → ⊥) = eqb-false k c t in h k (omega arith)) (bool-or (eqb k c))
 
-module _ (l₀ : List ℕ) (n p q : ℕ) (l : List ℕ) (c : ℕ) (h : Part l₀ n p q l c) (i : c < length l) where
-  pub part-set : (j : ℕ) → j ≡ joint (labs l₀ p) (labs l₀ q) n → hit c p q (labs l c) (labs l₀ p) (labs l₀ q) ≡ true → Part l₀ n p q (set l c j) (c + 1)
-  part-set j e t =
-      let u : touched (labs l₀) p q c ≡ true = subst (λ (v : ℕ). hit c p q v (labs l₀ p) (labs l₀ q) ≡ true) (h .old c (omega arith)) t in
-      record {
-        len = length-set l c j ∙ h .len;
-        at = omega (arith, h .len);
-        old = λ k r. getD-set-other l c k j 0 (λ f. omega arith) ∙ h .old k (omega arith);
-        new = below l₀ (set l c j) n p q c (λ k r. getD-set-other l c k j 0 (λ f. omega arith) ∙ h .new k r)
-            (getD-set-same l c j 0 i ∙ e ∙ sym (ap (λ (b : Bool). cond b (joint (labs l₀ p) (labs l₀ q) n) (labs l₀ c)) u));
-      }
+-- where both columns of the pair have a label, a column takes part by its label alone
+touched-labels : (l : List ℕ) (p q c : ℕ) → 0 < labs l p → 0 < labs l q → touched (labs l) p q c ≡ (eqb (labs l c) (labs l p) || eqb (labs l c) (labs l q))
+touched-labels l p q c hp hq = at (eqb c p) (eqb c q) refl refl
+  where
+    v : ℕ
+    v = labs l c
 
-  pub part-skip : hit c p q (labs l c) (labs l₀ p) (labs l₀ q) ≡ false → Part l₀ n p q l (c + 1)
-  part-skip t =
-      let u : touched (labs l₀) p q c ≡ false = subst (λ (v : ℕ). hit c p q v (labs l₀ p) (labs l₀ q) ≡ false) (h .old c (omega arith)) t in
-      record {
-        len = h .len;
-        at = omega (arith, h .len);
-        old = λ k r. h .old k (omega arith);
-        new = below l₀ l n p q c (h .new)
-            (h .old c (omega arith) ∙ sym (ap (λ (b : Bool). cond b (joint (labs l₀ p) (labs l₀ q) n) (labs l₀ c)) u));
-      }
+    none : (z : Bool) → eqb v 0 ≡ z → (not z && (eqb v (labs l p) || eqb v (labs l q))) ≡ (eqb v (labs l p) || eqb v (labs l q))
+    none true e = let f = eqb-true v 0 e in sym (or-both _ _ (ne-eqb v (labs l p) (λ g. omega arith)) (ne-eqb v (labs l q) (λ g. omega arith)))
+    none false e = refl
+
+    at : (u w : Bool) → eqb c p ≡ u → eqb c q ≡ w
+        → ((u || w) || (not (eqb v 0) && (eqb v (labs l p) || eqb v (labs l q)))) ≡ (eqb v (labs l p) || eqb v (labs l q))
+    at true w f g = sym (or-l (eqb v (labs l p)) _ (eq-eqb v (labs l p) (ap (labs l) (eqb-true c p f))))
+    at false true f g = sym (or-r (eqb v (labs l p)) _ (eq-eqb v (labs l q) (ap (labs l) (eqb-true c q g))))
+    at false false f g = none (eqb v 0) refl
+
+pub part-next : (l₀ : List ℕ) (n p q : ℕ) (l : List ℕ) (c j x : ℕ) → Part l₀ n p q l c → c < length l → 0 < labs l₀ p → 0 < labs l₀ q
+    → j ≡ joint (labs l₀ p) (labs l₀ q) n → x ≡ cond (eqb (labs l c) (labs l₀ p) || eqb (labs l c) (labs l₀ q)) j (labs l c) → Part l₀ n p q (set l c x) (c + 1)
+part-next l₀ n p q l c j x h i hp hq e f =
+    record {
+      len = length-set l c x ∙ h .len;
+      at = omega (arith, h .len);
+      old = λ k r. getD-set-other l c k x 0 (λ g. omega arith) ∙ h .old k (omega arith);
+      new = below l₀ (set l c x) n p q c (λ k r. getD-set-other l c k x 0 (λ g. omega arith) ∙ h .new k r)
+          (getD-set-same l c x 0 i ∙ f
+          ∙ ap (λ (v : ℕ). cond (eqb v (labs l₀ p) || eqb v (labs l₀ q)) j v) (h .old c (omega arith))
+          ∙ ap (λ (y : ℕ). cond (eqb (labs l₀ c) (labs l₀ p) || eqb (labs l₀ c) (labs l₀ q)) y (labs l₀ c)) e
+          ∙ ap (λ (b : Bool). cond b (joint (labs l₀ p) (labs l₀ q) n) (labs l₀ c)) (sym (touched-labels l₀ p q c hp hq)));
+    }
 
 -- past the end there is no label, and none comes
 pub part-end : (l₀ : List ℕ) (n p q : ℕ) (l : List ℕ) (c : ℕ) → p < length l₀ → q < length l₀ → Part l₀ n p q l c → length l ≤ c
@@ -120,22 +127,44 @@ part-end l₀ n p q l c hp hq h e k = cases (bool-or (ltb k c))
         (and-left (not (eqb (labs l₀ k) 0)) _ (ap not (eq-eqb (labs l₀ k) 0 z))) in
         h .old k (omega (arith, h .at, ltb-false k c t)) ∙ sym (ap (λ (b : Bool). cond b (joint (labs l₀ p) (labs l₀ q) n) (labs l₀ k)) u)
 
--- the test, as the code makes it
-pub hit-p : (c p q v a b : ℕ) → c ≡ p → true ≡ hit c p q v a b
-hit-p c p q v a b e = sym (or-l (eqb c p || eqb c q) _ (or-l (eqb c p) _ (eq-eqb c p e)))
+pub renamed-a : (v a b j : ℕ) → v ≡ a → j ≡ cond (eqb v a || eqb v b) j v
+renamed-a v a b j e = rw (eq-eqb v a e)
 
-pub hit-q : (c p q v a b : ℕ) → (c ≡ p → ⊥) → c ≡ q → true ≡ hit c p q v a b
-hit-q c p q v a b d e = sym (or-l (eqb c p || eqb c q) _ (or-r (eqb c p) _ (eq-eqb c q e)))
+pub renamed-b : (v a b j : ℕ) → v ≡ b → j ≡ cond (eqb v a || eqb v b) j v
+renamed-b v a b j e = rw (or-r (eqb v a) _ (eq-eqb v b e))
 
-pub hit-none : (c p q v a b : ℕ) → (c ≡ p → ⊥) → (c ≡ q → ⊥) → v ≡ 0 → false ≡ hit c p q v a b
-hit-none c p q v a b d f e =
-    sym (or-both (eqb c p || eqb c q) _ (or-both _ _ (ne-eqb c p d) (ne-eqb c q f)) (and-left (not (eqb v 0)) _ (ap not (eq-eqb v 0 e))))
+pub renamed-none : (v a b j : ℕ) → (v ≡ a → ⊥) → (v ≡ b → ⊥) → v ≡ cond (eqb v a || eqb v b) j v
+renamed-none v a b j e f = rw (ne-eqb v a e, ne-eqb v b f)
 
-hit-rest : (c p q v a b : ℕ) → (c ≡ p → ⊥) → (c ≡ q → ⊥) → (v ≡ 0 → ⊥) → hit c p q v a b ≡ (eqb v a || eqb v b)
-hit-rest c p q v a b d f e = rw (ne-eqb c p d, ne-eqb c q f, ne-eqb v 0 e)
+-- the joint label of a pair that is alike is the label that it has
+module _ (a b n : ℕ) (h : Alike a b) where
+  joint-a : (a ≡ 0 → ⊥) → a ≡ joint a b n
+  joint-a z = ⊎-elim (λ e. absurd (z e)) (⊎-elim (λ e. joint-first a b n z e) (λ e. joint-more a b n z (λ f. z (e ∙ f)) (omega arith))) h
 
-pub hit-a : (c p q v a b : ℕ) → (c ≡ p → ⊥) → (c ≡ q → ⊥) → (v ≡ 0 → ⊥) → v ≡ a → true ≡ hit c p q v a b
-hit-a c p q v a b d f e g = sym (hit-rest c p q v a b d f e ∙ or-l (eqb v a) _ (eq-eqb v a g))
+  joint-b : (b ≡ 0 → ⊥) → b ≡ joint a b n
+  joint-b z = ⊎-elim (λ e. joint-second a b n e z) (⊎-elim (λ e. absurd (z e)) (λ e. sym e ∙ joint-a (λ f. z (sym e ∙ f)))) h
 
-pub hit-b : (c p q v a b : ℕ) → (c ≡ p → ⊥) → (c ≡ q → ⊥) → (v ≡ 0 → ⊥) → (v ≡ a → ⊥) → eqb v b ≡ hit c p q v a b
-hit-b c p q v a b d f e g = sym (hit-rest c p q v a b d f e ∙ ap (λ (t : Bool). t || eqb v b) (ne-eqb v a g))
+  keeps : (v : ℕ) (z x y : Bool) → eqb v 0 ≡ z → eqb v a ≡ x → eqb v b ≡ y → v ≡ cond (not z && (x || y)) (joint a b n) v
+  keeps v true x y ez ex ey = refl
+  keeps v false true y ez ex ey = let e = eqb-true v a ex in e ∙ joint-a (λ f. eqb-false v 0 ez (e ∙ f))
+  keeps v false false true ez ex ey = let e = eqb-true v b ey in e ∙ joint-b (λ f. eqb-false v 0 ez (e ∙ f))
+  keeps v false false false ez ex ey = refl
+
+pub alike : (l : List ℕ) (n p q j : ℕ) → p < length l → q < length l → Alike (labs l p) (labs l q) → j ≡ joint (labs l p) (labs l q) n
+    → (c : ℕ) → labs (set (set l p j) q j) c ≡ relabel (labs l) n p q c
+alike l n p q j hp hq h e c = at (eqb c p) (eqb c q) refl refl
+  where
+    other : Bool
+    other = not (eqb (labs l c) 0) && (eqb (labs l c) (labs l p) || eqb (labs l c) (labs l q))
+
+    second : eqb c q ≡ true → labs (set (set l p j) q j) c ≡ joint (labs l p) (labs l q) n
+    second f = ap (labs (set (set l p j) q j)) (eqb-true c q f) ∙ getD-set-same (set l p j) q j 0 (omega (arith, length-set l p j)) ∙ e
+
+    at : (u v : Bool) → eqb c p ≡ u → eqb c q ≡ v → labs (set (set l p j) q j) c ≡ cond ((u || v) || other) (joint (labs l p) (labs l q) n) (labs l c)
+    at true true f g = second g
+    at false true f g = second g
+    at true false f g =
+        getD-set-other (set l p j) q c j 0 (eqb-false c q g) ∙ ap (labs (set l p j)) (eqb-true c p f) ∙ getD-set-same l p j 0 hp ∙ e
+    at false false f g =
+        getD-set-other (set l p j) q c j 0 (eqb-false c q g) ∙ getD-set-other l p c j 0 (eqb-false c p f)
+        ∙ keeps (labs l p) (labs l q) n h (labs l c) (eqb (labs l c) 0) (eqb (labs l c) (labs l p)) (eqb (labs l c) (labs l q)) refl refl refl

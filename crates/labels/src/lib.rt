@@ -7,7 +7,8 @@ ghost use Rattle.rule.specs.Lists.{filter};
 ghost use Rattle.rule.specs.Permitted.{ones as onesIn, count};
 ghost use Rattle.rule.specs.Rule.{joint, nextLabel, relabel, addPair, addPairs};
 ghost use Rattle.grid.specs.Grid.{bit, Under, Rows};
-ghost use Rattle.labels.specs.Labs.{labs, hit};
+ghost use mathlib.Core.Bool.{true, false, cond, _||_};
+ghost use Rattle.labels.specs.Labs.{labs, Alike};
 ghost use Rattle.labels.specs.Marking.{marksOf, Ready, Marked, Next, Right, isNoted, notedBy};
 
 // The label of two columns with labels a and b once they are joined; n is the next new label, and 0 is none.
@@ -33,28 +34,22 @@ fn following(a: usize, b: usize, n: usize) -> usize
     }
 }
 
-// Whether column c, with label v, takes part where the columns p and q, with labels a and b, are joined.
-fn touches(c: usize, p: usize, q: usize, v: usize, a: usize, b: usize) -> bool
-    ensures { λ r. ⌜ r ≡ hit c p q v a b ⌝ }
+// The label of a column with label v once the labels a and b are one, j.
+fn renamed(v: usize, a: usize, b: usize, j: usize) -> usize
+    ensures { λ r. ⌜ r ≡ cond (eqb v a || eqb v b) j v ⌝ }
 {
-    if c == p {
-        return true;
-    }
-    if c == q {
-        return true;
-    }
-    if v == 0 {
-        return false;
-    }
     if v == a {
-        return true;
+        return j;
     }
-    v == b
+    if v == b {
+        return j;
+    }
+    v
 }
 
-// The pair p, q is added: its columns, and all with one of their labels, take the joint label.
-fn add_pair(labels: &mut [usize], p: usize, q: usize, n: usize) -> usize
-    requires { ⌜ (p < length (now labels)) × (q < length (now labels)) × (n + 1 < 2 ^ 64) ⌝ }
+// The pair p, q, whose columns have labels, is added: all columns with one of them take the joint label.
+fn merge(labels: &mut [usize], p: usize, q: usize, n: usize) -> usize
+    requires { ⌜ (p < length (now labels)) × (q < length (now labels)) × (n + 1 < 2 ^ 64) × (0 < labs (now labels) p) × (0 < labs (now labels) q) ⌝ }
     ensures kept { λ _. ⌜ length (now (labels .exit)) ≡ length (now (labels .entry)) ⌝ }
     ensures next { λ r. ⌜ r ≡ nextLabel (labs (now (labels .entry)) p) (labs (now (labels .entry)) q) n ⌝ }
     ensures each { λ _. ⌜ ((c : ℕ) → labs (now (labels .exit)) c ≡ relabel (labs (now (labels .entry))) n p q c) ⌝ }
@@ -64,12 +59,44 @@ fn add_pair(labels: &mut [usize], p: usize, q: usize, n: usize) -> usize
     let j = join(a, b, n);
     let mut c = 0;
     while c < labels.len() {
-        let v = labels[c];
-        if touches(c, p, q, v, a, b) {
-            labels[c] = j;
-        }
+        labels[c] = renamed(labels[c], a, b, j);
         c += 1;
     }
+    following(a, b, n)
+}
+
+// Whether two columns have a label each, and not the same.
+fn differ(a: usize, b: usize) -> bool
+    ensures { λ r. ⌜ (r ≡ false → Alike a b) × (r ≡ true → (0 < a) × (0 < b)) ⌝ }
+{
+    if a == 0 {
+        return false;
+    }
+    if b == 0 {
+        return false;
+    }
+    if a == b {
+        return false;
+    }
+    true
+}
+
+// The pair p, q is added: its columns, and all with one of their labels, take the joint label. Where they do not bring two labels together, no other column
+// gets another label.
+fn add_pair(labels: &mut [usize], p: usize, q: usize, n: usize) -> usize
+    requires { ⌜ (p < length (now labels)) × (q < length (now labels)) × (n + 1 < 2 ^ 64) ⌝ }
+    ensures kept { λ _. ⌜ length (now (labels .exit)) ≡ length (now (labels .entry)) ⌝ }
+    ensures next { λ r. ⌜ r ≡ nextLabel (labs (now (labels .entry)) p) (labs (now (labels .entry)) q) n ⌝ }
+    ensures each { λ _. ⌜ ((c : ℕ) → labs (now (labels .exit)) c ≡ relabel (labs (now (labels .entry))) n p q c) ⌝ }
+{
+    let a = labels[p];
+    let b = labels[q];
+    if differ(a, b) {
+        return merge(labels, p, q, n);
+    }
+    let j = join(a, b, n);
+    labels[p] = j;
+    labels[q] = j;
     following(a, b, n)
 }
 

@@ -7,6 +7,8 @@ ghost use Rattle.octets.specs.Rows.{Added, Scaled, Fused};
 ghost use Rattle.octets.specs.Spans.{Span, Last, fmaAt, fromEnd};
 use octet::Octet;
 
+pub mod multiples;
+
 // Twice x.
 fn twice(x: u8) -> u8
     ensures { λ r. ⌜ r ≡ mul 2 x ⌝ }

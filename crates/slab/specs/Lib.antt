@@ -1,6 +1,5 @@
-pub mod Gain
-pub mod Blocks
 pub mod Placed
+pub mod Columns
 pub mod Turns
 pub mod Replay
 pub mod Passed

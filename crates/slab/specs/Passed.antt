@@ -27,8 +27,7 @@ use Rattle.oplist.specs.Facts.{and-left, and-right, Shape, shapeFine-shape, Fin
 use Rattle.algebra.specs.Rows.{Good, Within}
 use Rattle.algebra.specs.Flat.{fits}
 use Rattle.slab.specs.declared.Check.the-variants.{Pass, ShapeFails, ListFails}
-use Rattle.slab.specs.Blocks.{TwoRows}
-use Rattle.slab.specs.Placed.{Placed}
+use Rattle.slab.specs.Placed.{TwoRows, Placed}
 use Rattle.slab.specs.Turns.{AllPlaced}
 use Rattle.bounds.specs.Bounds.{mostBytes}
 use Rattle.slab.specs.Replay.{slabShaped, pickCheck, checked}

@@ -1,29 +1,57 @@
-// A list of operations applied to a flat slab, and undone.
+// A list of operations applied to a flat slab, and undone, on a part of each row at a time.
 ghost use mathlib.Core.Path.{_≡_};
 ghost use lib.ListN.{length};
-ghost use Prim.Native.Nat.{_<_};
+ghost use Prim.Native.Nat.{_+_, _≤_, _<_};
 ghost use Rattle.octet.specs.Octet.{inverse as inv};
+ghost use Rattle.octets.specs.Multiples.{Blank};
 ghost use Rattle.oplist.specs.Word.{meaning};
 ghost use Rattle.oplist.specs.Listed.{opsOf};
 ghost use Rattle.algebra.specs.Rows.{inverse, undo};
 ghost use Rattle.algebra.specs.Flat.{acts};
-ghost use Rattle.slab.specs.Turns.{PlacedWord, AllPlaced, wordOps};
+ghost use Rattle.slab.specs.Placed.{Ready};
+ghost use Rattle.slab.specs.Columns.{Cols};
+ghost use Rattle.slab.specs.Turns.{PlacedWord, AllPlaced, wordOps, Applied};
 use octet::Octet;
 use octet::Quotient;
 use oplist::Op;
 use oplist::Word;
 
-// The bytes of a row that are copied at a time.
-const BLOCK: usize = 1024;
-
-// The slab after the operation of one word.
-fn apply_word(slab: &mut [u8], block: &mut [u8], t: usize, w: u64)
-    requires { ⌜ PlacedWord t (meaning w) (length (now slab)) × (0 < length (now block)) ⌝ }
-    ensures { λ _. ⌜ now (slab .exit) ≡ acts t (wordOps (meaning w)) (now (slab .entry)) ⌝ }
+// The slab after the operation of one word on the n bytes from at on of each row, and what the room then holds (row::apply).
+fn apply_word(
+    slab: &mut [u8],
+    room: &mut [u8; octets::multiples::ROOM],
+    t: usize,
+    at: usize,
+    n: usize,
+    held: usize,
+    w: u64,
+) -> usize
+    requires { ⌜ PlacedWord t (meaning w) (length (now slab)) × (0 < n) × (n ≤ 1280) × (at + n ≤ t) × Ready n held (now slab) (now room) ⌝ }
+    ensures { λ r. ⌜ Applied t at n (wordOps (meaning w)) (now (slab .entry)) (now (slab .exit)) (now (room .exit)) r ⌝ }
 {
     match oplist::unpack(w) {
-        Word::Known(op) => crate::row::apply(slab, block, t, op),
-        Word::Unknown => {}
+        Word::Known(op) => crate::row::apply(slab, room, t, at, n, held, op),
+        Word::Unknown => held,
+    }
+}
+
+// The slab after the operations of a list, first to last, on the n bytes from at on of each row.
+fn apply_columns(
+    slab: &mut [u8],
+    room: &mut [u8; octets::multiples::ROOM],
+    t: usize,
+    at: usize,
+    n: usize,
+    list: &[u64],
+)
+    requires { ⌜ AllPlaced t (opsOf (now list)) (length (now slab)) × (0 < n) × (n ≤ 1280) × (at + n ≤ t) × Blank (now room) ⌝ }
+    ensures { λ _. ⌜ Cols t at (at + n) (opsOf (now (list .entry))) (now (slab .entry)) (now (slab .exit)) × Blank (now (room .exit)) ⌝ }
+{
+    let mut held = slab.len();
+    let mut i = 0;
+    while i < list.len() {
+        held = apply_word(slab, room, t, at, n, held, list[i]);
+        i += 1;
     }
 }
 
@@ -32,11 +60,12 @@ pub fn apply_all(slab: &mut [u8], t: usize, list: &[u64])
     requires { ⌜ AllPlaced t (opsOf (now list)) (length (now slab)) ⌝ }
     ensures { λ _. ⌜ now (slab .exit) ≡ acts t (opsOf (now (list .entry))) (now (slab .entry)) ⌝ }
 {
-    let mut block = [0u8; BLOCK];
-    let mut i = 0;
-    while i < list.len() {
-        apply_word(slab, &mut block, t, list[i]);
-        i += 1;
+    let mut room = [0u8; octets::multiples::ROOM];
+    let mut at = 0;
+    while at < t {
+        let n = crate::row::least(t - at, octets::multiples::BLOCK);
+        apply_columns(slab, &mut room, t, at, n, list);
+        at += n;
     }
 }
 
@@ -61,14 +90,43 @@ fn inverted(op: Op) -> Op
     }
 }
 
-// The slab after the operation of one word is undone.
-fn undo_word(slab: &mut [u8], block: &mut [u8], t: usize, w: u64)
-    requires { ⌜ PlacedWord t (meaning w) (length (now slab)) × (0 < length (now block)) ⌝ }
-    ensures { λ _. ⌜ now (slab .exit) ≡ acts t (undo (wordOps (meaning w))) (now (slab .entry)) ⌝ }
+// The slab after the operation of one word is undone on the n bytes from at on of each row, and what the room then holds (row::apply).
+fn undo_word(
+    slab: &mut [u8],
+    room: &mut [u8; octets::multiples::ROOM],
+    t: usize,
+    at: usize,
+    n: usize,
+    held: usize,
+    w: u64,
+) -> usize
+    requires { ⌜ PlacedWord t (meaning w) (length (now slab)) × (0 < n) × (n ≤ 1280) × (at + n ≤ t) × Ready n held (now slab) (now room) ⌝ }
+    ensures { λ r. ⌜ Applied t at n (undo (wordOps (meaning w))) (now (slab .entry)) (now (slab .exit)) (now (room .exit)) r ⌝ }
 {
     match oplist::unpack(w) {
-        Word::Known(op) => crate::row::apply(slab, block, t, inverted(op)),
-        Word::Unknown => {}
+        Word::Known(op) => crate::row::apply(slab, room, t, at, n, held, inverted(op)),
+        Word::Unknown => held,
+    }
+}
+
+// The slab after the operations of a list are undone, last to first, on the n bytes from at on of each row.
+fn undo_columns(
+    slab: &mut [u8],
+    room: &mut [u8; octets::multiples::ROOM],
+    t: usize,
+    at: usize,
+    n: usize,
+    list: &[u64],
+)
+    requires { ⌜ AllPlaced t (opsOf (now list)) (length (now slab)) × (0 < n) × (n ≤ 1280) × (at + n ≤ t) × Blank (now room) ⌝ }
+    ensures { λ _. ⌜ Cols t at (at + n) (undo (opsOf (now (list .entry)))) (now (slab .entry)) (now (slab .exit)) × Blank (now (room .exit)) ⌝ }
+{
+    let mut held = slab.len();
+    let m = list.len();
+    let mut done = 0;
+    while done < m {
+        held = undo_word(slab, room, t, at, n, held, list[m - 1 - done]);
+        done += 1;
     }
 }
 
@@ -77,11 +135,11 @@ pub fn undo_all(slab: &mut [u8], t: usize, list: &[u64])
     requires { ⌜ AllPlaced t (opsOf (now list)) (length (now slab)) ⌝ }
     ensures { λ _. ⌜ now (slab .exit) ≡ acts t (undo (opsOf (now (list .entry)))) (now (slab .entry)) ⌝ }
 {
-    let mut block = [0u8; BLOCK];
-    let n = list.len();
-    let mut done = 0;
-    while done < n {
-        undo_word(slab, &mut block, t, list[n - 1 - done]);
-        done += 1;
+    let mut room = [0u8; octets::multiples::ROOM];
+    let mut at = 0;
+    while at < t {
+        let n = crate::row::least(t - at, octets::multiples::BLOCK);
+        undo_columns(slab, &mut room, t, at, n, list);
+        at += n;
     }
 }

@@ -1,23 +1,18 @@
-// Row operations on a flat slab. Two rows of one slab can't be lent at once, so what a row gains from another goes through a block: a short buffer that
-// holds a copy of a part of the other row.
+// Row operations on a flat slab, on a part of each row. Two rows of one slab can't be lent at once: a row that gains another is worked on within the slab,
+// and one that gains a multiple of another gets it from a room that holds multiples of that row, made once for all operations that follow with the same row.
 ghost use mathlib.Core.Path.{_≡_};
+ghost use mathlib.Core.List.{[], _∷_};
 ghost use lib.ListN.{length};
 ghost use Prim.Native.Nat.{_+_, _≤_, _<_};
-ghost use Rattle.algebra.specs.Flat.{act};
-ghost use Rattle.slab.specs.Gain.{gained};
-ghost use Rattle.slab.specs.Blocks.{TwoRows, gain};
-ghost use Rattle.slab.specs.Placed.{Placed};
+ghost use Rattle.octets.specs.Spans.{Span};
+ghost use Rattle.octets.specs.Multiples.{Blank, Multiples, entry};
+ghost use Rattle.slab.specs.Placed.{TwoRows, Placed, addAt, fmaAt, scaleAt, Ready};
+ghost use Rattle.slab.specs.Turns.{Applied};
 use octet::Octet;
 use oplist::Op;
 
-// What a row gains from another: that row, or a multiple of it.
-enum Gain {
-    Row,
-    Multiple(u8),
-}
-
 // The lesser of two numbers that are not zero.
-fn least(a: usize, b: usize) -> usize
+pub fn least(a: usize, b: usize) -> usize
     requires { ⌜ (0 < a) × (0 < b) ⌝ }
     ensures { λ r. ⌜ (0 < r) × (r ≤ a) × (r ≤ b) ⌝ }
 {
@@ -27,65 +22,84 @@ fn least(a: usize, b: usize) -> usize
     b
 }
 
-// dest becomes src.
-fn copy(dest: &mut [u8], src: &[u8])
-    requires { ⌜ length (now dest) ≡ length (now src) ⌝ }
-    ensures { λ _. ⌜ now (dest .exit) ≡ now (src .entry) ⌝ }
+// The n bytes from dest on gain the n bytes from src on. The two do not overlap.
+fn add_part(slab: &mut [u8], dest: usize, src: usize, n: usize)
+    requires { ⌜ TwoRows dest src n (length (now slab)) ⌝ }
+    ensures { λ _. ⌜ Span (addAt (now (slab .entry)) dest src) (now (slab .entry)) dest (dest + n) (now (slab .exit)) ⌝ }
 {
     let mut i = 0;
-    while i < dest.len() {
-        dest[i] = src[i];
+    while i < n {
+        let x = dest + i;
+        slab[x] = slab[x] ^ slab[src + i];
         i += 1;
     }
 }
 
-// dest gains src.
-fn gain_part(dest: &mut [u8], src: &[u8], by: Gain)
-    requires { ⌜ length (now dest) ≡ length (now src) ⌝ }
-    ensures { λ _. ⌜ now (dest .exit) ≡ gained by (now (dest .entry)) (now (src .entry)) ⌝ }
+// The n bytes from dest on are multiplied by k.
+fn scale_part(slab: &mut [u8], dest: usize, n: usize, k: u8)
+    requires { ⌜ dest + n ≤ length (now slab) ⌝ }
+    ensures { λ _. ⌜ Span (scaleAt (now (slab .entry)) k) (now (slab .entry)) dest (dest + n) (now (slab .exit)) ⌝ }
 {
-    match by {
-        Gain::Row => octets::add(dest, src),
-        Gain::Multiple(k) => octets::fma(dest, src, Octet { value: k }),
+    let end = dest + n;
+    octets::scale(&mut slab[dest..end], Octet { value: k });
+}
+
+// The room gets the multiples of the n bytes from src on, unless it holds them: it holds those of the bytes from held on.
+fn hold(slab: &[u8], room: &mut [u8; octets::multiples::ROOM], src: usize, n: usize, held: usize)
+    requires { ⌜ (src + n ≤ length (now slab)) × (n ≤ 1280) × Ready n held (now slab) (now room) ⌝ }
+    ensures { λ _. ⌜ Multiples n (entry (now (slab .entry)) src) (now (room .exit)) × Blank (now (room .exit)) ⌝ }
+{
+    if held != src {
+        let end = src + n;
+        octets::multiples::fill(room, &slab[src..end]);
     }
 }
 
-// The n bytes from dest on gain the n bytes from src on, at most a block of them.
-fn gain_block(slab: &mut [u8], block: &mut [u8], dest: usize, src: usize, n: usize, by: Gain)
-    requires { ⌜ (dest + n ≤ length (now slab)) × (src + n ≤ length (now slab)) × (n ≤ length (now block)) ⌝ }
-    ensures { λ _. ⌜ now (slab .exit) ≡ gain by dest src n (now (slab .entry)) ⌝ }
+// The n bytes from dest on gain k times the n bytes from src on. The two do not overlap.
+fn fma_part(
+    slab: &mut [u8],
+    room: &mut [u8; octets::multiples::ROOM],
+    dest: usize,
+    src: usize,
+    n: usize,
+    k: u8,
+    held: usize,
+)
+    requires { ⌜ TwoRows dest src n (length (now slab)) × (n ≤ 1280) × Ready n held (now slab) (now room) ⌝ }
+    ensures { λ _. ⌜ Span (fmaAt (now (slab .entry)) dest src k) (now (slab .entry)) dest (dest + n) (now (slab .exit)) × Ready n src (now (slab .exit)) (now (room .exit)) ⌝ }
 {
-    let src_end = src + n;
-    copy(&mut block[0..n], &slab[src..src_end]);
-    let dest_end = dest + n;
-    gain_part(&mut slab[dest..dest_end], &block[0..n], by);
+    hold(slab, room, src, n, held);
+    let end = dest + n;
+    octets::multiples::gather(&mut slab[dest..end], room, Octet { value: k });
 }
 
-// The n bytes from dest on gain the n bytes from src on, block by block. The two do not overlap.
-fn gain_row(slab: &mut [u8], block: &mut [u8], dest: usize, src: usize, n: usize, by: Gain)
-    requires { ⌜ TwoRows dest src n (length (now slab)) × (0 < length (now block)) ⌝ }
-    ensures { λ _. ⌜ now (slab .exit) ≡ gain by dest src n (now (slab .entry)) ⌝ }
-{
-    let mut at = 0;
-    while at < n {
-        let k = least(n - at, block.len());
-        gain_block(slab, block, dest + at, src + at, k, by);
-        at += k;
-    }
-}
-
-// The slab, of rows of t bytes, after one operation.
-pub fn apply(slab: &mut [u8], block: &mut [u8], t: usize, op: Op)
-    requires { ⌜ Placed t op (length (now slab)) × (0 < length (now block)) ⌝ }
-    ensures { λ _. ⌜ now (slab .exit) ≡ act t op (now (slab .entry)) ⌝ }
+// The slab, of rows of t bytes, after one operation on the n bytes from at on of each row. The answer is where the bytes stand whose multiples the room
+// then holds; the slab's length, if it holds none.
+pub fn apply(
+    slab: &mut [u8],
+    room: &mut [u8; octets::multiples::ROOM],
+    t: usize,
+    at: usize,
+    n: usize,
+    held: usize,
+    op: Op,
+) -> usize
+    requires { ⌜ Placed t op (length (now slab)) × (0 < n) × (n ≤ 1280) × (at + n ≤ t) × Ready n held (now slab) (now room) ⌝ }
+    ensures { λ r. ⌜ Applied t at n (op ∷ []) (now (slab .entry)) (now (slab .exit)) (now (room .exit)) r ⌝ }
 {
     match op {
-        Op::AddAssign(d, s) => gain_row(slab, block, d * t, s * t, t, Gain::Row),
-        Op::MulAssign(d, k) => {
-            let start = d * t;
-            let end = start + t;
-            octets::scale(&mut slab[start..end], Octet { value: k })
+        Op::AddAssign(d, s) => {
+            add_part(slab, d * t + at, s * t + at, n);
+            slab.len()
         }
-        Op::FMA(d, s, k) => gain_row(slab, block, d * t, s * t, t, Gain::Multiple(k)),
+        Op::MulAssign(d, k) => {
+            scale_part(slab, d * t + at, n, k);
+            slab.len()
+        }
+        Op::FMA(d, s, k) => {
+            let src = s * t + at;
+            fma_part(slab, room, d * t + at, src, n, k, held);
+            src
+        }
     }
 }

@@ -1,104 +1,73 @@
-use mathlib.Core.Path.{sym, _∙_}
-use Prim.Native.Nat.{_-_}
-use mathlib.Core.Logic.{⊎-elim}
+-- `labels::add_pair` meets its contract: two labels are brought together by `merge`; else only the pair's own columns change. Assumes nothing.
+use lib.ListN.{length-set}
+use Rattle.labels.specs.Facts.{alike}
 use native.Mathlib.Omega.{arith}
 use borrow.Author.Needs.{needs}
-use lib.ListN.{length}
-use Rattle.labels.specs.Facts.{Part, part-start, part-set, part-skip, part-end}
 use Rattle.labels.proofs.add_pair.Statement.{statement}
 use Rattle.labels.proofs.add_pair.Tie as tie
 use Rattle.labels.proofs.add_pair.Reads as reads
 use Rattle.labels.proofs.add_pair.Lts as lts
+use Rattle.labels.proofs.differ.Reads as differ-reads
 use Rattle.labels.proofs.following.Reads as following-reads
 use Rattle.labels.proofs.join.Reads as join-reads
-use Rattle.labels.proofs.touches.Reads as touches-reads
+use Rattle.labels.proofs.merge.Reads as merge-reads
 
-abbrev Inv-loop : tie.InvT-loop
-Inv-loop labels₀ p q n a b j c₀ labels c = Part labels₀ n p q labels c
-
-abbrev μ-loop : tie.MeasureT-loop
-μ-loop labels₀ p q n a b j c₀ labels c = length labels₀ - c
-
--- src/lib.rt:48:13
-mul-a : tie.Need-mul-a Inv-loop μ-loop
+mul-a : tie.Need-mul-a
 mul-a c = search needs
 
--- src/lib.rt:48:13
-slice-read-a : tie.Need-slice-read-a Inv-loop μ-loop
+slice-read-a : tie.Need-slice-read-a
 slice-read-a c = search needs
 
--- src/lib.rt:49:13
-mul-b : tie.Need-mul-b Inv-loop μ-loop
+mul-b : tie.Need-mul-b
 mul-b c = search needs
 
--- src/lib.rt:49:13
-slice-read-b : tie.Need-slice-read-b Inv-loop μ-loop
+slice-read-b : tie.Need-slice-read-b
 slice-read-b c = search needs
 
--- src/lib.rt:50:9
-join-requires : tie.Need-join-requires Inv-loop μ-loop
-join-requires c κs = search needs
+differ-requires : tie.Need-differ-requires
+differ-requires c κs = search needs
 
--- src/lib.rt:52:5
-loop-holds : tie.Need-loop-holds Inv-loop μ-loop
-loop-holds c = part-start _ _ _ _
+merge-requires : tie.Need-merge-requires
+merge-requires c κs =
+    let s = c .before .before .before .before .before .before in
+    let d = c .before .before .differ .ensures .1 (c .before .if1 .taken) in
+    (s .pre .0, s .pre .1, s .pre .2, d .0, d .1)
 
--- src/lib.rt:53:17
-mul-v : tie.Need-mul-v Inv-loop μ-loop
-mul-v c = search needs
-
--- src/lib.rt:53:17
-slice-read-v : tie.Need-slice-read-v Inv-loop μ-loop
-slice-read-v c = search needs
-
--- src/lib.rt:54:12
-touches-requires : tie.Need-touches-requires Inv-loop μ-loop
-touches-requires c κs = search needs
-
--- src/lib.rt:55:13
-mul-labels : tie.Need-mul-labels Inv-loop μ-loop
-mul-labels c = search needs
-
--- src/lib.rt:55:13
-slice-write-labels : tie.Need-slice-write-labels Inv-loop μ-loop
-slice-write-labels c = search needs
-
--- src/lib.rt:57:9
-add-c : tie.Need-add-c Inv-loop μ-loop
-add-c c = search needs
-
--- src/lib.rt:52:5
-loop-less : tie.Need-loop-less Inv-loop μ-loop
-loop-less c = search needs
-
--- src/lib.rt:52:5
-loop-again : tie.Need-loop-again Inv-loop μ-loop
-loop-again c =
-    let h = c .before .before .before .before .loop .inv in
-    let i = c .before .before .before .loop-test .taken in
-    let t = c .before .touches .ensures in
-    ⊎-elim
-    (λ w. rw (w .1) (part-set _ _ _ _ _ _ h i _ (c .before .before .before .before .before .join .ensures) (sym t ∙ w .0 .taken)))
-    (λ w. rw (w .1) (part-skip _ _ _ _ _ _ h i (sym t ∙ w .0 .left)))
-    (c .if1 .came)
-
--- src/lib.rt:59:5
-following-requires : tie.Need-following-requires Inv-loop μ-loop
-following-requires c κs = search needs
-
--- src/lib.rt:42:1
-same-length : tie.Need-same-length Inv-loop μ-loop
+same-length : tie.Need-same-length
 same-length c = search needs
 
--- src/lib.rt:42:1
-returns : tie.Need-returns Inv-loop μ-loop
-returns c =
-    let h = c .before .before .loop .inv in (
-      h .len,
+returns : tie.Need-returns
+returns c = c .before .before .merge .ensures
+
+join-requires : tie.Need-join-requires
+join-requires c κs = search needs
+
+mul-labels : tie.Need-mul-labels
+mul-labels c = search needs
+
+slice-write-labels : tie.Need-slice-write-labels
+slice-write-labels c = search needs
+
+mul-labels-2 : tie.Need-mul-labels-2
+mul-labels-2 c = search needs
+
+slice-write-labels-2 : tie.Need-slice-write-labels-2
+slice-write-labels-2 c = search needs
+
+following-requires : tie.Need-following-requires
+following-requires c κs = search needs
+
+same-length-2 : tie.Need-same-length-2
+same-length-2 c = search needs
+
+returns-2 : tie.Need-returns-2
+returns-2 c =
+    let s = c .before .before .before .before .before .before .before in
+    let a = s .args in (
+      simp length-set,
       (
         c .following .ensures,
-        part-end _ _ _ _ _ _ (c .before .before .before .before .before .before .before .pre .0) (c .before .before .before .before .before .before .before .pre .1) h
-            (c .before .loop-test .left),
+        alike (a .labels .now) (a .n) (a .p) (a .q) _ (s .pre .0) (s .pre .1) (c .before .before .before .differ .ensures .0 (c .before .before .if1 .left)) (c .before .join .ensures),
       ),
     )
 
@@ -106,22 +75,19 @@ pub add-pair-spec : {M : Type 1} → statement M
 add-pair-spec =
     tie.close
     (tie.spec
-    Inv-loop
-    μ-loop
     mul-a
     slice-read-a
     mul-b
     slice-read-b
+    differ-requires
+    merge-requires
+    same-length
+    returns
     join-requires
-    loop-holds
-    mul-v
-    slice-read-v
-    touches-requires
     mul-labels
     slice-write-labels
-    add-c
-    loop-less
-    loop-again
+    mul-labels-2
+    slice-write-labels-2
     following-requires
-    same-length
-    returns)
+    same-length-2
+    returns-2)

@@ -2,7 +2,7 @@
 use mathlib.Core.Path.{subst, sym, _∙_}
 use lib.ListN.{length}
 use Rattle.oplist.specs.declared.Word.{Word}
-use Rattle.algebra.specs.Flat.{acts}
+use Rattle.slab.specs.Columns.{cols-none}
 use Rattle.slab.specs.Turns.{PlacedWord}
 use native.Mathlib.Omega.{arith}
 use borrow.Author.Needs.{needs}
@@ -21,9 +21,9 @@ enum-known-op c = search needs
 
 apply-requires : tie.Need-apply-requires
 apply-requires c κs =
-    let at = c .before .before .before .before .before .before .before .before in
+    let s = c .before .before .before .before .before .before .before in
     let e = sym (c .before .before .before .before .before .unpack .ensures) ∙ c .before .before .before .op .given .1 in
-    (subst (λ (v : Word). PlacedWord (at .args .t) v (length (at .args .slab .now))) e (at .pre .0), at .pre .1)
+    (subst (λ (v : Word). PlacedWord (s .args .t) v (length (s .args .slab .now))) e (s .pre .0), s .pre .1, s .pre .2, s .pre .3, s .pre .4)
 
 enum-told : tie.Need-enum-told
 enum-told c = search needs
@@ -31,26 +31,13 @@ enum-told c = search needs
 same-length : tie.Need-same-length
 same-length c = search needs
 
-same-length-2 : tie.Need-same-length-2
-same-length-2 c = search needs
-
 returns : tie.Need-returns
-unfolding acts
-returns c = rw (sym (c .before .before .before .before .before .before .before .before .before .before .unpack .ensures) ∙ c .before .before .before .before .before .before .before .before .op .given .1) (c .before .before .before .before .apply .ensures)
+returns c = rw (sym (c .before .before .before .before .before .before .before .before .unpack .ensures) ∙ c .before .before .before .before .before .before .op .given .1) (c .before .before .apply .ensures)
 
 returns-2 : tie.Need-returns-2
-unfolding acts
-returns-2 c = rw (sym (c .before .before .unpack .ensures) ∙ c .enum-told .given .1)
+returns-2 c = rw (sym (c .before .before .unpack .ensures) ∙ c .enum-told .given .1) (record { cols = cols-none; ready = c .before .before .before .before .pre .4 })
 
 pub apply-word-spec : {M : Type 1} → statement M
 apply-word-spec =
     tie.close
-    (tie.spec
-    unpack-requires
-    enum-known-op
-    apply-requires
-    enum-told
-    same-length
-    same-length-2
-    returns
-    returns-2)
+    (tie.spec unpack-requires enum-known-op apply-requires enum-told same-length returns returns-2)

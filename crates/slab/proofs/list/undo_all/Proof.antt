@@ -1,66 +1,62 @@
 -- `list::undo_all` meets its contract. Assumes nothing.
-use mathlib.Core.Path.{_≡_, refl, _∙_}
-use Prim.Native.Nat.{_-_}
+use Prim.Native.Nat.{_-_, _≤_}
 use lib.ListN.{length}
-use Rattle.slab.specs.Turns.{Down, down-start, down-next, down-end, placed-at}
+use Rattle.algebra.specs.Rows.{undo}
+use Rattle.octets.specs.Multiples.{Blank, blank-zeros}
+use Rattle.oplist.specs.Listed.{opsOf}
+use Rattle.slab.specs.Turns.{all-inverse}
+use Rattle.slab.specs.Columns.{Cols, cols-start, cols-join, cols-all}
 use native.Mathlib.Omega.{arith}
 use borrow.Author.Needs.{needs}
 use Rattle.slab.proofs.list.undo_all.Statement.{statement}
 use Rattle.slab.proofs.list.undo_all.Tie as tie
 use Rattle.slab.proofs.list.undo_all.Reads as reads
 use Rattle.slab.proofs.list.undo_all.Lts as lts
-use Rattle.slab.proofs.list.undo_word.Reads as undo-word-reads
+use Rattle.slab.proofs.list.undo_columns.Reads as undo-columns-reads
+use Rattle.slab.proofs.row.least.Reads as least-reads
 
 abbrev Inv-loop : tie.InvT-loop
-Inv-loop slab₀ t list block₀ n done₀ slab block done = Down t list slab₀ slab done × (length block ≡ 1024)
+Inv-loop slab₀ t list room₀ at₀ slab room at = (at ≤ t) × Cols t 0 at (undo (opsOf list)) slab₀ slab × Blank room
 
 abbrev μ-loop : tie.MeasureT-loop
-μ-loop slab₀ t list block₀ n done₀ slab block done = length list - done
+μ-loop slab₀ t list room₀ at₀ slab room at = t - at
 
 loop-holds : tie.Need-loop-holds Inv-loop μ-loop
-loop-holds c = (down-start _ _ _, refl)
+loop-holds c = (omega arith, cols-start, blank-zeros)
 
-slice-aggregate-undo-word : tie.Need-slice-aggregate-undo-word Inv-loop μ-loop
-slice-aggregate-undo-word c = search needs
+sub-least : tie.Need-sub-least Inv-loop μ-loop
+sub-least c = search needs
 
-sub-undo-word : tie.Need-sub-undo-word Inv-loop μ-loop
-sub-undo-word c = search needs
+least-requires : tie.Need-least-requires Inv-loop μ-loop
+least-requires c κs = search needs
 
-sub-undo-word-2 : tie.Need-sub-undo-word-2 Inv-loop μ-loop
-sub-undo-word-2 c = search needs
+undo-columns-requires : tie.Need-undo-columns-requires Inv-loop μ-loop
+undo-columns-requires c κs =
+    let s = c .before .before .before .before .before .before .before in
+    let now = c .before .before .before .before .loop in
+    let n = c .before .before .least .ensures in
+    (rw (now .inv .1 .long) (s .pre), n .0, n .2, omega arith, now .inv .2)
 
-mul-undo-word : tie.Need-mul-undo-word Inv-loop μ-loop
-mul-undo-word c = search needs
-
-shared-slice-read-undo-word : tie.Need-shared-slice-read-undo-word Inv-loop μ-loop
-shared-slice-read-undo-word c = search needs
-
-undo-word-requires : tie.Need-undo-word-requires Inv-loop μ-loop
-undo-word-requires c κs =
-    let at = c .before .before .before .before .before .before .before in
-    let now = c .before .before .before .before .loop in (
-      rw (now .inv .0 .long)
-          (placed-at (at .args .t) (at .args .list .now) (length (at .args .slab .now)) (at .pre) (length (at .args .list .now) - 1 - now .done) (search needs)),
-      search needs,
-    )
-
-add-done : tie.Need-add-done Inv-loop μ-loop
-add-done c = search needs
+add-at : tie.Need-add-at Inv-loop μ-loop
+add-at c = search needs
 
 loop-less : tie.Need-loop-less Inv-loop μ-loop
 loop-less c = search needs
 
 loop-again : tie.Need-loop-again Inv-loop μ-loop
 loop-again c =
-    let now = c .before .before .before .before .before .before .before .before .loop in
-    let call = c .before .before .before .undo-word in
-    (down-next _ _ _ (now .inv .0) (search needs) (call .ensures) (call .kept .0), call .kept .1 .0 ∙ now .inv .1)
+    let now = c .before .before .before .before .before .before .before .loop in
+    let n = c .before .before .before .before .before .least .ensures in
+    let call = c .before .before .undo-columns in
+    (omega arith, cols-join (now .inv .1) (call .ensures .0) (omega arith) (omega arith), call .ensures .1)
 
 same-length : tie.Need-same-length Inv-loop μ-loop
-same-length c = c .before .loop .inv .0 .long
+same-length c = c .before .loop .inv .1 .long
 
 returns : tie.Need-returns Inv-loop μ-loop
-returns c = down-end _ _ _ (c .before .loop .inv .0) (search needs)
+returns c =
+    let s = c .before .before .before .before in
+    cols-all (c .before .loop .inv .1) (c .before .loop .inv .0) (omega arith) (all-inverse (s .args .t) (length (s .args .slab .now)) (opsOf (s .args .list .now)) (s .pre))
 
 pub undo-all-spec : {M : Type 1} → statement M
 undo-all-spec =
@@ -69,13 +65,10 @@ undo-all-spec =
     Inv-loop
     μ-loop
     loop-holds
-    slice-aggregate-undo-word
-    sub-undo-word
-    sub-undo-word-2
-    mul-undo-word
-    shared-slice-read-undo-word
-    undo-word-requires
-    add-done
+    sub-least
+    least-requires
+    undo-columns-requires
+    add-at
     loop-less
     loop-again
     same-length

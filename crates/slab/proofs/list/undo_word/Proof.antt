@@ -1,7 +1,8 @@
 -- `list::undo_word` meets its contract. Assumes nothing.
-use mathlib.Core.Path.{sym, _∙_}
+use mathlib.Core.Path.{subst, sym, _∙_}
 use lib.ListN.{length}
-use Rattle.algebra.specs.Flat.{acts}
+use Rattle.oplist.specs.declared.Word.{Word}
+use Rattle.slab.specs.Columns.{cols-none}
 use Rattle.slab.specs.Turns.{placed-inverse}
 use native.Mathlib.Omega.{arith}
 use borrow.Author.Needs.{needs}
@@ -24,9 +25,9 @@ inverted-requires c κs = search needs
 
 apply-requires : tie.Need-apply-requires
 apply-requires c κs =
-    let at = c .before .before .before .before .before .before .before .before .before in
+    let s = c .before .before .before .before .before .before .before .before in
     let e = sym (c .before .before .before .before .before .before .unpack .ensures) ∙ c .before .before .before .before .op .given .1 in
-    (rw (c .inverted .ensures) (placed-inverse (at .args .t) (length (at .args .slab .now)) e (at .pre .0)), at .pre .1)
+    (rw (c .inverted .ensures) (placed-inverse (s .args .t) (length (s .args .slab .now)) e (s .pre .0)), s .pre .1, s .pre .2, s .pre .3, s .pre .4)
 
 enum-told : tie.Need-enum-told
 enum-told c = search needs
@@ -34,16 +35,11 @@ enum-told c = search needs
 same-length : tie.Need-same-length
 same-length c = search needs
 
-same-length-2 : tie.Need-same-length-2
-same-length-2 c = search needs
-
 returns : tie.Need-returns
-unfolding acts
-returns c = rw (sym (c .before .before .before .before .before .before .before .before .before .before .before .unpack .ensures) ∙ c .before .before .before .before .before .before .before .before .before .op .given .1, ← c .before .before .before .before .before .inverted .ensures) (c .before .before .before .before .apply .ensures)
+returns c = rw (sym (c .before .before .before .before .before .before .before .before .before .unpack .ensures) ∙ c .before .before .before .before .before .before .before .op .given .1, ← c .before .before .before .inverted .ensures) (c .before .before .apply .ensures)
 
 returns-2 : tie.Need-returns-2
-unfolding acts
-returns-2 c = rw (sym (c .before .before .unpack .ensures) ∙ c .enum-told .given .1)
+returns-2 c = rw (sym (c .before .before .unpack .ensures) ∙ c .enum-told .given .1) (record { cols = cols-none; ready = c .before .before .before .before .pre .4 })
 
 pub undo-word-spec : {M : Type 1} → statement M
 undo-word-spec =
@@ -55,6 +51,5 @@ undo-word-spec =
     apply-requires
     enum-told
     same-length
-    same-length-2
     returns
     returns-2)

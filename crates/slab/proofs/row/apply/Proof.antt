@@ -1,147 +1,156 @@
 -- `row::apply` meets its contract: each arm has its rows' places from the `requires`, and what it did to parts is the operation. Assumes nothing.
-use mathlib.Core.Path.{subst, _∙_}
+use mathlib.Core.Path.{refl, subst}
 use lib.ListN.{length}
 use Rattle.oplist.specs.declared.Op.{Op}
-use Rattle.slab.specs.Placed.{Placed, act-add, act-scale, act-fma}
+use Rattle.slab.specs.Placed.{Placed, two-parts, ready-none}
+use Rattle.slab.specs.Columns.{cols-add, cols-scale, cols-fma}
 use native.Mathlib.Omega.{arith}
 use borrow.Author.Needs.{needs}
 use Rattle.slab.proofs.row.apply.Statement.{statement}
 use Rattle.slab.proofs.row.apply.Tie as tie
 use Rattle.slab.proofs.row.apply.Reads as reads
 use Rattle.slab.proofs.row.apply.Lts as lts
-use Rattle.octets.proofs.scale.Reads as scale-reads
-use Rattle.slab.proofs.row.gain_row.Reads as gain-row-reads
+use Rattle.slab.proofs.row.add_part.Reads as add-part-reads
+use Rattle.slab.proofs.row.fma_part.Reads as fma-part-reads
+use Rattle.slab.proofs.row.scale_part.Reads as scale-part-reads
 
 enum-known-op : tie.Need-enum-known-op
 enum-known-op c = search needs
 
-mul-gain-row : tie.Need-mul-gain-row
-mul-gain-row c =
-    let at = c .before .before .before .before .before .before .before in
-    let h = subst (λ (o : Op). Placed (at .args .t) o (length (at .args .slab .now))) (c .before .before .before .op .given .1) (at .pre .0) in
+mul-add-part : tie.Need-mul-add-part
+mul-add-part c =
+    let s = c .before .before .before .before .before in
+    let h = subst (λ (o : Op). Placed (s .args .t) o (length (s .args .slab .now))) (c .before .before .op .given .1) (s .pre .0) in
     omega arith
 
-mul-gain-row-2 : tie.Need-mul-gain-row-2
-mul-gain-row-2 c =
-    let at = c .before .before .before .before .before .before .before in
-    let h = subst (λ (o : Op). Placed (at .args .t) o (length (at .args .slab .now))) (c .before .before .before .op .given .1) (at .pre .0) in
+add-add-part : tie.Need-add-add-part
+add-add-part c =
+    let s = c .before .before .before .before .before in
+    let h = subst (λ (o : Op). Placed (s .args .t) o (length (s .args .slab .now))) (c .before .before .op .given .1) (s .pre .0) in
     omega arith
 
-gain-row-requires : tie.Need-gain-row-requires
-gain-row-requires c κs =
-    let at = c .before .before .before .before .before .before .before in
-    let h = subst (λ (o : Op). Placed (at .args .t) o (length (at .args .slab .now))) (c .before .before .before .op .given .1) (at .pre .0) in
-    (h, at .pre .1)
+mul-add-part-2 : tie.Need-mul-add-part-2
+mul-add-part-2 c =
+    let s = c .before .before .before .before .before in
+    let h = subst (λ (o : Op). Placed (s .args .t) o (length (s .args .slab .now))) (c .before .before .op .given .1) (s .pre .0) in
+    omega arith
+
+add-add-part-2 : tie.Need-add-add-part-2
+add-add-part-2 c =
+    let s = c .before .before .before .before .before in
+    let h = subst (λ (o : Op). Placed (s .args .t) o (length (s .args .slab .now))) (c .before .before .op .given .1) (s .pre .0) in
+    omega arith
+
+add-part-requires : tie.Need-add-part-requires
+add-part-requires c κs =
+    let s = c .before .before .before .before .before in
+    let h = subst (λ (o : Op). Placed (s .args .t) o (length (s .args .slab .now))) (c .before .before .op .given .1) (s .pre .0) in
+    two-parts (s .args .at) (s .args .n) h (s .pre .3)
 
 enum-known-op-2 : tie.Need-enum-known-op-2
 enum-known-op-2 c = search needs
 
-mul-start : tie.Need-mul-start
-mul-start c =
-    let at = c .before .before .before .before .before in
-    let h = subst (λ (o : Op). Placed (at .args .t) o (length (at .args .slab .now))) (c .before .op2 .given .1) (at .pre .0) in
+mul-scale-part : tie.Need-mul-scale-part
+mul-scale-part c =
+    let s = c .before .before .before .before .before in
+    let h = subst (λ (o : Op). Placed (s .args .t) o (length (s .args .slab .now))) (c .before .before .op2 .given .1) (s .pre .0) in
     omega arith
 
-add-end : tie.Need-add-end
-add-end c =
-    let at = c .before .before .before .before .before in
-    let h = subst (λ (o : Op). Placed (at .args .t) o (length (at .args .slab .now))) (c .before .op2 .given .1) (at .pre .0) in
+add-scale-part : tie.Need-add-scale-part
+add-scale-part c =
+    let s = c .before .before .before .before .before in
+    let h = subst (λ (o : Op). Placed (s .args .t) o (length (s .args .slab .now))) (c .before .before .op2 .given .1) (s .pre .0) in
     omega arith
 
-sub-scale : tie.Need-sub-scale
-sub-scale c =
-    search needs
-
-part-scale-start : tie.Need-part-scale-start
-part-scale-start c =
-    search needs
-
-part-scale-end : tie.Need-part-scale-end
-part-scale-end c =
-    let at = c .before .before .before .before .before in
-    let h = subst (λ (o : Op). Placed (at .args .t) o (length (at .args .slab .now))) (c .before .op2 .given .1) (at .pre .0) in
+scale-part-requires : tie.Need-scale-part-requires
+scale-part-requires c κs =
+    let s = c .before .before .before .before .before in
+    let h = subst (λ (o : Op). Placed (s .args .t) o (length (s .args .slab .now))) (c .before .before .op2 .given .1) (s .pre .0) in
     omega arith
-
-scale-requires : tie.Need-scale-requires
-scale-requires c κs = search needs
 
 enum-known-op-3 : tie.Need-enum-known-op-3
 enum-known-op-3 c = search needs
 
-mul-gain-row-3 : tie.Need-mul-gain-row-3
-mul-gain-row-3 c =
-    let at = c .before .before .before .before .before .before .before in
-    let h = subst (λ (o : Op). Placed (at .args .t) o (length (at .args .slab .now))) (c .before .before .before .op3 .given .1) (at .pre .0) in
+mul-src : tie.Need-mul-src
+mul-src c =
+    let s = c .before .before .before .before in
+    let h = subst (λ (o : Op). Placed (s .args .t) o (length (s .args .slab .now))) (c .before .op3 .given .1) (s .pre .0) in
     omega arith
 
-mul-gain-row-4 : tie.Need-mul-gain-row-4
-mul-gain-row-4 c =
-    let at = c .before .before .before .before .before .before .before in
-    let h = subst (λ (o : Op). Placed (at .args .t) o (length (at .args .slab .now))) (c .before .before .before .op3 .given .1) (at .pre .0) in
+add-src : tie.Need-add-src
+add-src c =
+    let s = c .before .before .before .before in
+    let h = subst (λ (o : Op). Placed (s .args .t) o (length (s .args .slab .now))) (c .before .op3 .given .1) (s .pre .0) in
     omega arith
 
-gain-row-requires-2 : tie.Need-gain-row-requires-2
-gain-row-requires-2 c κs =
-    let at = c .before .before .before .before .before .before .before in
-    let h = subst (λ (o : Op). Placed (at .args .t) o (length (at .args .slab .now))) (c .before .before .before .op3 .given .1) (at .pre .0) in
-    (h, at .pre .1)
+mul-fma-part : tie.Need-mul-fma-part
+mul-fma-part c =
+    let s = c .before .before .before .before .before .before in
+    let h = subst (λ (o : Op). Placed (s .args .t) o (length (s .args .slab .now))) (c .before .before .before .op3 .given .1) (s .pre .0) in
+    omega arith
+
+add-fma-part : tie.Need-add-fma-part
+add-fma-part c =
+    let s = c .before .before .before .before .before .before in
+    let h = subst (λ (o : Op). Placed (s .args .t) o (length (s .args .slab .now))) (c .before .before .before .op3 .given .1) (s .pre .0) in
+    omega arith
+
+fma-part-requires : tie.Need-fma-part-requires
+fma-part-requires c κs =
+    let s = c .before .before .before .before .before .before in
+    let h = subst (λ (o : Op). Placed (s .args .t) o (length (s .args .slab .now))) (c .before .before .before .op3 .given .1) (s .pre .0) in
+    (two-parts (s .args .at) (s .args .n) h (s .pre .3), s .pre .2, s .pre .4)
 
 same-length : tie.Need-same-length
 same-length c = search needs
 
+returns : tie.Need-returns
+returns c =
+    let s = c .before .before .before .before .before .before .before .before in
+    rw (c .before .before .before .before .before .op .given .1)
+    (record { cols = cols-add (s .args .t) (s .args .at) (s .args .n) (s .pre .3) (s .pre .1) _ _ (c .before .before .add-part .ensures); ready = ready-none (s .pre .1) refl (s .pre .4 .blank) })
+
 same-length-2 : tie.Need-same-length-2
 same-length-2 c = search needs
 
-returns : tie.Need-returns
-returns c =
-    let at = c .before .before .before .before .before .before .before .before .before .before .before .before in
-    let h = subst (λ (o : Op). Placed (at .args .t) o (length (at .args .slab .now))) (c .before .before .before .before .before .before .before .before .op .given .1) (at .pre .0) in
-    rw (c .before .before .before .before .before .before .before .before .op .given .1) (c .before .before .before .before .gain-row .ensures ∙ act-add _ _ _ _ h)
+returns-2 : tie.Need-returns-2
+returns-2 c =
+    let s = c .before .before .before .before .before .before .before .before in
+    rw (c .before .before .before .before .before .op2 .given .1)
+    (record { cols = cols-scale (s .args .t) (s .args .at) (s .args .n) (s .pre .3) (s .pre .1) _ _ (c .before .before .scale-part .ensures); ready = ready-none (s .pre .1) refl (s .pre .4 .blank) })
 
 same-length-3 : tie.Need-same-length-3
 same-length-3 c = search needs
 
-returns-2 : tie.Need-returns-2
-returns-2 c =
-    let at = c .before .before .before .before .before .before .before .before .before in
-    rw (c .before .before .before .before .before .op2 .given .1) (act-scale _ _ _ _ _ (c .before .before .scale .ensures .is))
-
-same-length-4 : tie.Need-same-length-4
-same-length-4 c = search needs
-
-same-length-5 : tie.Need-same-length-5
-same-length-5 c = search needs
-
 returns-3 : tie.Need-returns-3
 returns-3 c =
-    let at = c .before .before .before .before .before .before .before .before .before .before .before .before in
-    let h = subst (λ (o : Op). Placed (at .args .t) o (length (at .args .slab .now))) (c .before .before .before .before .before .before .before .before .op3 .given .1) (at .pre .0) in
-    rw (c .before .before .before .before .before .before .before .before .op3 .given .1) (c .before .before .before .before .gain-row2 .ensures ∙ act-fma _ _ _ _ _ h)
+    let s = c .before .before .before .before .before .before .before .before .before in
+    let p = c .before .before .fma-part .ensures in
+    rw (c .before .before .before .before .before .before .op3 .given .1) (record { cols = cols-fma (s .args .t) (s .args .at) (s .args .n) (s .pre .3) (s .pre .1) _ _ _ (p .0); ready = p .1 })
 
 pub apply-spec : {M : Type 1} → statement M
 apply-spec =
     tie.close
     (tie.spec
     enum-known-op
-    mul-gain-row
-    mul-gain-row-2
-    gain-row-requires
+    mul-add-part
+    add-add-part
+    mul-add-part-2
+    add-add-part-2
+    add-part-requires
     enum-known-op-2
-    mul-start
-    add-end
-    sub-scale
-    part-scale-start
-    part-scale-end
-    scale-requires
+    mul-scale-part
+    add-scale-part
+    scale-part-requires
     enum-known-op-3
-    mul-gain-row-3
-    mul-gain-row-4
-    gain-row-requires-2
+    mul-src
+    add-src
+    mul-fma-part
+    add-fma-part
+    fma-part-requires
     same-length
-    same-length-2
     returns
-    same-length-3
+    same-length-2
     returns-2
-    same-length-4
-    same-length-5
+    same-length-3
     returns-3)
