@@ -1,10 +1,11 @@
 -- What an answer means to a caller.
 --   full-exactly        ListFull exactly when the defined list is longer than the room
+--   solved-end          Solved: the run ends with the order of the answer, whose list is the whole of the run's
 --   solved-reduces      Solved: the list turns the matrix into the identity, in the order's rows, and zero rows
 --   undone, recovered-by, only-one, agreed   hence undo, recovery, uniqueness, and when received symbols agree
---   singular-nulled     Singular: the vector is not all zeros, and the whole matrix sends it to zeros
+--   singular-nulled     Singular: the whole matrix sends the vector to zeros; it is 1 at the column without pivot and 0 at the later ones
 --   singular-never      hence no list of operations reduces the matrix
---   no-pivot-blank      NoPivot: no eligible row has a nonzero in V
+--   no-pivot-blank      NoPivot: columns are left in V, and no eligible row has a nonzero there
 --   Decided             an end with an order or with a vector
 --   wide-decides        a wide run is never without a pivot
 --   blind               the answer has nothing of the symbols
@@ -30,12 +31,13 @@ use Rattle.phases.specs.One.{Step, Phase, phase-one, ops-one}
 use Rattle.phases.specs.Two.{Second, acts, working, forward}
 use Rattle.phases.specs.Run.{Run, End, solved, no-pivot, singular, whole, finish, second, refused, goes-on, defined, Answer, ListFull, ending, answer}
 use Rattle.phases.specs.Fit.{Fit}
-use Rattle.phases.specs.Means.{Says, Nulled, Blank, means}
+use Rattle.phases.specs.Means.{columns-two, Says, Nulled, Blank, means}
 
 -- how a run ended, from the number of the answer
 abbrev Told : (z : Shape) (A : ℕ → ℕ → ℕ) → Run → Answer → Type 0
 Told z A r a =
-    (a .number ≡ 0 → Reduces (z .m) (z .n) (a .list) A (λ j. getD (a .order) j 0)) × (a .number ≡ 7 → Nulled z A (a .vector)) × (a .number ≡ 6 → Blank z A (r .one))
+    (a .number ≡ 0 → Reduces (z .m) (z .n) (a .list) A (λ j. getD (a .order) j 0)) × (a .number ≡ 7 → Nulled z A (λ k. getD (a .vector) k 0))
+    × (a .number ≡ 6 → Blank z A (r .one))
 
 module _ (z : Shape) (A : ℕ → ℕ → ℕ) (fit : Fit z A) (room : ℕ) (wide : Bool) where
   abbrev r : Run
@@ -59,7 +61,7 @@ module _ (z : Shape) (A : ℕ → ℕ → ℕ) (fit : Fit z A) (room : ℕ) (wid
   pub solved-reduces : told-of .number ≡ 0 → Reduces (z .m) (z .n) (told-of .list) A (λ j. getD (told-of .order) j 0)
   solved-reduces = told .0
 
-  pub singular-nulled : told-of .number ≡ 7 → Nulled z A (told-of .vector)
+  pub singular-nulled : told-of .number ≡ 7 → Nulled z A (λ k. getD (told-of .vector) k 0)
   singular-nulled = told .1
 
   pub no-pivot-blank : told-of .number ≡ 6 → Blank z A (r .one)
@@ -91,8 +93,21 @@ module _ (z : Shape) (A : ℕ → ℕ → ℕ) (fit : Fit z A) (room : ℕ) (wid
 
   pub singular-never : told-of .number ≡ 7 → (ps : List Op) (order : ℕ → ℕ) → Reduces (z .m) (z .n) ps A order → ⊥
   singular-never e ps order R =
-      let t : Nulled z A (told-of .vector) = singular-nulled e in
-      never (z .m) (z .n) ps A order (λ k. getD (told-of .vector) k 0) (t .column) (t .octets) (t .sent) (t .inside) (t .one) R
+      let t : Nulled z A (λ k. getD (told-of .vector) k 0) = singular-nulled e in
+      never (z .m) (z .n) ps A order (λ k. getD (told-of .vector) k 0) (getD (columns-two z A) (t .stop) 0) (t .octets) (t .sent) (t .inside) (t .one) R
+
+-- a Solved answer is that of a run that ends with its order, and gives the run's whole list
+pub solved-end : (room : ℕ) (r : Run) → answer room r .number ≡ 0 → (r .end ≡ solved (answer room r .order)) × (answer room r .list ≡ whole r)
+solved-end room r = full (ltb room (length (whole r)))
+  where
+    at-end : (x : End) → r .end ≡ x → ending r x .number ≡ 0 → (r .end ≡ solved (ending r x .order)) × (ending r x .list ≡ whole r)
+    at-end (solved order) q e = (q, refl)
+    at-end no-pivot q e = absurd (omega arith)
+    at-end (singular x) q e = absurd (omega arith)
+
+    full : (b : Bool) → let a : Answer = cond b ListFull (ending r (r .end)) in a .number ≡ 0 → (r .end ≡ solved (a .order)) × (a .list ≡ whole r)
+    full true e = absurd (omega arith)
+    full false e = at-end (r .end) refl e
 
 -- ListFull before all else
 ending-not-full : (r : Run) (e : End) → ending r e .number ≢ 5

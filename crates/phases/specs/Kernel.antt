@@ -1,5 +1,6 @@
 -- The vector of a run that stops: it is sent to zeros, and is not all zeros.
 --   Value, weighs, chain, value-of, cols-of, Small   a vector as a list of columns, each with its value
+--   absent, chain-cols       a column that is not among them has 0; a run's columns are those of its steps and the one without pivot
 --   dot-weigh                the product of a row and the vector
 --   Apart, chosen-apart      each chosen row has zeros at the columns of later ones
 --   Halt                     a run that stops at a column without pivot
@@ -59,7 +60,7 @@ weigh-octet : (row : ℕ → ℕ) (vs : List Value) → Octet (weighs row vs)
 weigh-octet row [] = lit< tt
 weigh-octet row (a ∷ vs) = L.add-octet (weighs row vs) (mul (row (a .col)) (a .val)) (weigh-octet row vs) (L.mul-octet (row (a .col)) (a .val))
 
-absent : (q : ℕ) (vs : List Value) → occ q (cols-of vs) ≡ 0 → value-of q vs ≡ 0
+pub absent : (q : ℕ) (vs : List Value) → occ q (cols-of vs) ≡ 0 → value-of q vs ≡ 0
 absent q [] z = refl
 absent q (a ∷ vs) z = go (same? q (a .col)) (λ k. absent q vs k)
   where
@@ -106,7 +107,7 @@ dot-weigh n row (a ∷ vs) o b =
 
 -- the values by substitution
 module _ (D : ℕ → ℕ → ℕ) (q : ℕ) where
-  chain-cols : (ts : List Step) (y : ℕ) → occ y (cols-of (chain D ts q)) ≡ occ y (pivots-of ts) + tick (eqb y q)
+  pub chain-cols : (ts : List Step) (y : ℕ) → occ y (cols-of (chain D ts q)) ≡ occ y (pivots-of ts) + tick (eqb y q)
   chain-cols [] y = omega arith
   chain-cols (t ∷ ts) y = let e : occ y (cols-of (chain D ts q)) ≡ occ y (pivots-of ts) + tick (eqb y q) = chain-cols ts y in omega arith
 

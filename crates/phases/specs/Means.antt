@@ -1,6 +1,7 @@
 -- What the defined run means, plain and wide: Solved reduces the matrix, Singular shows a vector that is sent to zeros, NoPivot leaves no nonzero in V.
---   Nulled       a vector, not all zeros, that the whole matrix sends to zeros
---   Blank        no eligible row has a nonzero in what is left of V, as it was given and after the list
+--   columns-two, turns-two   phase two's columns by place, and how its first part ends
+--   Nulled       a vector that the whole matrix sends to zeros, with a 1 at the column without pivot and zeros at the later columns of phase two
+--   Blank        columns are left in V, and no eligible row has a nonzero there, as it was given and after the list
 --   Says         what each end of a run says
 --   means        the defined run says it
 --   walk, ended  what is known of phase one at its end, and how the first part of phase two ends
@@ -9,10 +10,11 @@
 --   length-by-column, getD-by-column   a list by column has an entry for each column, which is what stands beside the column
 -- Assumes nothing.
 use mathlib.Core.Path.{_≡_, refl, sym, ap, ap₂, _∙_, subst}
+use mathlib.Core.Logic.{_≢_}
 use mathlib.Core.Bool.{Bool, true, false, cond}
 use mathlib.Core.List.{List, [], _∷_, _++_, map, append-assoc}
 use Prim.Native.Nat.{ℕ, zero, suc, _+_, _-_, _<_, _≤_}
-use native.Mathlib.Nat.{zero-add}
+use native.Mathlib.Nat.{zero-add, not-suc-le-zero}
 use native.Mathlib.Omega.{arith}
 use lib.Dec.{eqb, lit<}
 use lib.ListN.{length, getD, take, drop, take-append-drop, length-map}
@@ -36,7 +38,7 @@ use Rattle.phases.specs.Fit.{Fit, all-rows, rows-occ, rows-once, rows-be
 use Rattle.phases.specs.Sweep.{last-rows, rows-kept, kept-v, ops-within}
 use Rattle.phases.specs.Gauss.{Works, works-kept, ops-two, above}
 use Rattle.phases.specs.Solved.{Course, the-list, list-two, list-kept, reduces, pivots-append, row-of}
-use Rattle.phases.specs.Kernel.{Halt, Value, chain, value-of, cols-of}
+use Rattle.phases.specs.Kernel.{Halt, Value, chain, value-of, cols-of, absent, chain-cols}
 use Rattle.phases.specs.Kernel as Ker
 use Rattle.phases.specs.Walk.{Walked, walked-end, zeros}
 use Rattle.phases.specs.Matrix.{Full, Shows, acts-full, shows-acts, working-full, shows-working, length-range, getD-map-range}
@@ -56,6 +58,14 @@ getD-octets f a zero h j = lit< tt
 getD-octets f a (suc n) h zero = h a
 getD-octets f a (suc n) h (suc j) = getD-octets f (suc a) n h j
 
+-- an entry behind a place stands in what is dropped there
+member-drop : (a : ℕ) (l : List ℕ) (i : ℕ) → a ≤ i → i < length l → Member (drop a l) (getD l i 0)
+member-drop a [] i h k = absurd (not-suc-le-zero k)
+member-drop zero (x ∷ l) zero h k = omega (arith, tick-eq x x refl)
+member-drop zero (x ∷ l) (suc i) h k = omega (arith, member-drop zero l i (omega arith) (omega arith))
+member-drop (suc a) (x ∷ l) zero h k = absurd (omega arith)
+member-drop (suc a) (x ∷ l) (suc i) h k = member-drop a l i (omega arith) (omega arith)
+
 reorder : (m n : ℕ) (os : List Op) (A : ℕ → ℕ → ℕ) (o p : ℕ → ℕ) → ((j : ℕ) → j < n → p j ≡ o j) → Reduces m n os A o → Reduces m n os A p
 reorder m n os A o p e R = record {
   good = R .good;
@@ -65,23 +75,35 @@ reorder m n os A o p e R = record {
   clear = λ r l un k q. R .clear r l (λ j i x. un j i (e j i ∙ x)) k q;
 }
 
--- the whole matrix sends x to zeros, and x is 1 somewhere
-pub record Nulled (z : Shape) (A : ℕ → ℕ → ℕ) (x : List ℕ) : Type 0 where
-  pub sent : Makes (z .m) (z .n) A (λ k. getD x k 0) (λ _. 0)
-  pub column : ℕ
-  pub inside : column < z .n
-  pub one : getD x column 0 ≡ 1
-  pub octets : Octets (λ k. getD x k 0)
-
 module _ (z : Shape) (A : ℕ → ℕ → ℕ) where
-  -- in V, as it was given and as it stands after the list, no eligible row has a nonzero
-  abbrev pub Blank : List Op → Type 0
-  Blank os = (y q : ℕ) → Member (phase-one A z .now .elig) y → Member (phase-one A z .now .cols) q → (A y q ≡ 0) × (runs os A y q ≡ 0)
+  -- the columns left in V and the inactive ones
+  abbrev pub columns-two : List ℕ
+  columns-two = phase-one A z .now .cols ++ phase-one A z .out
+
+  -- the rows that were not chosen, the octet rows last, over these columns
+  abbrev pub turns-two : Way (Out Op Second)
+  turns-two =
+      forward columns-two (phase-one A z .now .elig ++ octet-rows z) (acts (ops-one A (phase-one A z .steps)) (working A (z .m) columns-two))
+
+  -- the whole matrix sends x to zeros; phase two finds no pivot at the place `stop`, where x is 1, and x is 0 at the later places
+  pub record Nulled (x : ℕ → ℕ) : Type 0 where
+    pub sent : Makes (z .m) (z .n) A x (λ _. 0)
+    pub octets : Octets x
+    pub stop : ℕ
+    pub stops : (f : Out Op Second) × (turns-two ≡ halt stop f)
+    pub inside : getD columns-two stop 0 < z .n
+    pub one : x (getD columns-two stop 0) ≡ 1
+    pub later : (i : ℕ) → stop < i → i < length columns-two → x (getD columns-two i 0) ≡ 0
+
+  -- columns are left in V, where no eligible row has a nonzero, as it was given and as it stands after the list
+  pub record Blank (os : List Op) : Type 0 where
+    pub left : phase-one A z .now .cols ≢ []
+    pub zeros : (y q : ℕ) → Member (phase-one A z .now .elig) y → Member (phase-one A z .now .cols) q → (A y q ≡ 0) × (runs os A y q ≡ 0)
 
   abbrev pub Says : Run → End → Type 0
   Says r (solved order) = Reduces (z .m) (z .n) (whole r) A (λ j. getD order j 0)
   Says r no-pivot = Blank (r .one)
-  Says r (singular x) = Nulled z A x
+  Says r (singular x) = Nulled (λ k. getD x k 0)
 
 module _ (z : Shape) (A : ℕ → ℕ → ℕ) (fit : Fit z A) where
   abbrev p : Phase
@@ -224,16 +246,23 @@ module _ (z : Shape) (A : ℕ → ℕ → ℕ) (fit : Fit z A) where
         (subst (λ (l : List Op). Reduces (z .m) (z .n) l A (λ j. row-of j (ts ++ f .st .steps))) (sym same-list)
         (reduces (z .m) (z .n) A rows v ts (f .st .steps) course))
 
-  singular-says : (j : ℕ) (f : Out Op Second) → Stage (z .m) B cols left j f → j < length cols
+  singular-says : (j : ℕ) (f : Out Op Second) → turns-two z A ≡ halt j f → Stage (z .m) B cols left j f → j < length cols
       → ((y : ℕ) → Member (f .st .left) y → at (f .st .mat) y j ≡ 0)
       → Says z A (finish z A ts os cols (halt j f)) (finish z A ts os cols (halt j f) .end)
-  singular-says j f S jl stuck = record {
+  singular-says j f halts S jl stuck = record {
     sent = λ r l. sum-ext (z .n) (λ k. mul (A r k) (getD x k 0)) (λ k. mul (A r k) (value-of k vs))
         (λ k i. ap (λ (y : ℕ). mul (A r k) y) (getD-by-column (z .n) (pivots-of ts ++ cols) xs k i ∙ is k)) ∙ K .0 r l;
-    column = q;
+    octets = getD-octets (λ k. beside k (pivots-of ts ++ cols) xs) 0 (z .n) (λ k. subst (λ (y : ℕ). y < 256) (sym (is k)) (K .2 k));
+    stop = j;
+    stops = (f, halts);
     inside = ql;
     one = getD-by-column (z .n) (pivots-of ts ++ cols) xs q ql ∙ is q ∙ K .1;
-    octets = getD-octets (λ k. beside k (pivots-of ts ++ cols) xs) 0 (z .n) (λ k. subst (λ (y : ℕ). y < 256) (sym (is k)) (K .2 k));
+    later = λ i h l.
+        let k : ℕ = getD cols i 0 in
+        let s : Member (drop (suc j) cols) k = member-drop (suc j) cols i h l in
+        let kl : k < z .n = cols-below z (fit .cols-fit) k (omega (arith, spread k)) in
+        getD-by-column (z .n) (pivots-of ts ++ cols) xs k kl ∙ is k
+        ∙ absent k vs (omega (arith, chain-cols D q (ts ++ us) k, spread k, cols-once z (fit .cols-fit) k));
   }
     where
       us : List Step
@@ -318,25 +347,29 @@ module _ (z : Shape) (A : ℕ → ℕ → ℕ) (fit : Fit z A) where
           ap₂ (λ (c d : List ℕ). beside k c d) cols-are vals-are
           ∙ beside-more k (cols-of vs) (drop (suc j) cols) (vals-of vs) (length-vals vs) ∙ beside-value k vs
 
-  blank : Blank z A os
-  blank y q i j = (
-    zeros z A fit y q i j,
-    kept-v A ts rows v (walk .legal) once A (fit .entries) (λ x k a b. refl) y q
-        (subst (λ (l : List ℕ). Member l y) (sym (walk .rows-left)) (omega (arith, occ-append y (p .now .elig) (octet-rows z))))
-        (subst (λ (l : List ℕ). Member l q) (sym (walk .cols-left)) j)
-        ∙ zeros z A fit y q i j,
-  )
+  blank : p .now .cols ≢ [] → Blank z A os
+  blank some = record {
+    left = some;
+    zeros = λ y q i j. (
+      zeros z A fit y q i j,
+      kept-v A ts rows v (walk .legal) once A (fit .entries) (λ x k a b. refl) y q
+          (subst (λ (l : List ℕ). Member l y) (sym (walk .rows-left)) (omega (arith, occ-append y (p .now .elig) (octet-rows z))))
+          (subst (λ (l : List ℕ). Member l q) (sym (walk .cols-left)) j)
+          ∙ zeros z A fit y q i j,
+    );
+  }
 
   second-says : Says z A (second z A p) (second z A p .end)
-  second-says = at-way (forward cols left X) ended
+  second-says = at-way (forward cols left X) refl ended
     where
-      at-way : (w : Way (Out Op Second)) → Ended (z .m) B cols left (length cols) w → Says z A (finish z A ts os cols w) (finish z A ts os cols w .end)
-      at-way (go f) S = solved-says f S
-      at-way (halt j f) S = singular-says j f (S .0) (S .1) (S .2)
+      at-way : (w : Way (Out Op Second)) → turns-two z A ≡ w → Ended (z .m) B cols left (length cols) w
+          → Says z A (finish z A ts os cols w) (finish z A ts os cols w .end)
+      at-way (go f) e S = solved-says f S
+      at-way (halt j f) e S = singular-says j f e (S .0) (S .1) (S .2)
 
   pub means : (wide : Bool) → Says z A (defined z A wide) (defined z A wide .end)
-  means wide = at-end (goes-on z A wide (p .now .cols))
+  means wide = at-end (goes-on z A wide (p .now .cols)) refl
     where
-      at-end : (b : Bool) → Says z A (cond b (second z A p) (refused z A p)) (cond b (second z A p) (refused z A p) .end)
-      at-end true = second-says
-      at-end false = blank
+      at-end : (b : Bool) → goes-on z A wide (p .now .cols) ≡ b → Says z A (cond b (second z A p) (refused z A p)) (cond b (second z A p) (refused z A p) .end)
+      at-end true e = second-says
+      at-end false e = blank (λ n. let g : _≡_ {A = ℕ} 0 1 = ap (λ (b : Bool). cond b 0 1) (sym (ap (goes-on z A wide) n) ∙ e) in omega arith)

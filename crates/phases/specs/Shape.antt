@@ -6,8 +6,9 @@
 --   Upper    5.4.2.5: the chosen rows are zeros on phase two's columns
 --   Identity 5.4.2.6: every column is the unit of its row
 --   first-shape   the matrix has the first shape after any number of steps of phase one
---   Shapes, shapes   and each shape after its phase, where the run is solved
---   course-shapes    the same for any legal steps that give every column a row, where the lists are those by step
+--   Shapes, shapes   and each shape after its phase, where the run is solved: the steps are a course, so that each column is exactly one step's
+--   every-unit       so in the end every column is the unit of one row
+--   course-shapes    the same for any course, where the lists are those by step
 -- Assumes nothing.
 use mathlib.Core.Path.{_≡_, refl, sym, ap, ap₂, _∙_, subst}
 use mathlib.Core.Bool.{Bool, true, false, cond}
@@ -24,12 +25,12 @@ use Rattle.phases.specs.System.{Shape, range, octet-rows}
 use Rattle.phases.specs.One.{Step, Phase, rows-of, phase-after, phase-one, ops-one}
 use Rattle.phases.specs.Two.{Second, acts, working, forward}
 use Rattle.phases.specs.Rest.{phase-four}
-use Rattle.phases.specs.Run.{Run, solved, finish, second, refused, goes-on, defined}
+use Rattle.phases.specs.Run.{Run, whole, solved, finish, second, refused, goes-on, defined}
 use Rattle.phases.specs.Occ.{occ, Member}
 use Rattle.phases.specs.Fit.{Fit, all-rows, rows-occ, rows-once}
 use Rattle.phases.specs.Sweep.{Every, every-map, Triangle, triangle, last-rows, last-cols, shape, shape-clear, kept-v, rows-kept}
 use Rattle.phases.specs.Gauss.{ops-two, above}
-use Rattle.phases.specs.Solved.{every-of, Course, list-two, list-kept, the-list, G-first, G-second, undone, kept-off, cleared, four-leaves, final}
+use Rattle.phases.specs.Solved.{Among, every-at, every-of, found, Course, list-two, list-kept, the-list, G-first, G-second, undone, kept-off, cleared, four-leaves, final}
 use Rattle.phases.specs.Walk.{Walked, walked}
 use Rattle.phases.specs.Matrix.{runs-append}
 use Rattle.phases.specs.Forward.{Ended}
@@ -87,15 +88,33 @@ module _ (z : Shape) (A : ℕ → ℕ → ℕ) (fit : Fit z A) where
       once : (y : ℕ) → occ y (all-rows z) ≤ 1
       once = rows-once z (fit .rows-fit)
 
--- the shapes of a run whose phases two to five were done
+-- the shapes of a run whose phases two to five were done, by steps that give every column a row: phase one's and phase two's
 pub record Shapes (z : Shape) (A : ℕ → ℕ → ℕ) (ts us : List Step) (left : List ℕ) (r : Run) : Type 0 where
+  pub course : Course (z .m) (z .n) A (all-rows z) (range 0 (z .w)) ts us
   pub two : Reduced (z .m) (runs (r .one ++ r .two) A) ts us left
   pub three : Sparse A (runs (r .one ++ r .two ++ r .three) A) ts us left
   pub four : Upper A (runs (r .one ++ r .two ++ r .three ++ r .four) A) ts us
   pub five : Identity (z .m) (runs (r .one ++ r .two ++ r .three ++ r .four ++ r .five) A) (ts ++ us)
 
+-- each column is exactly one step's, and in the end the unit of its row
+pub every-unit : {z : Shape} {A : ℕ → ℕ → ℕ} {ts us : List Step} {left : List ℕ} {r : Run} → Shapes z A ts us left r → (q : ℕ) → q < z .n
+    → (t : Step) × Among t (ts ++ us) × (t .pivot ≡ q) × ((x : ℕ) → x < z .m → runs (whole r) A x q ≡ delta x (t .row))
+every-unit {z} {A} {ts} {us} {left} {r} S q l =
+    let f = found q (ts ++ us) (omega (arith, S .course .every q l)) in (
+      f .0,
+      f .1,
+      f .2,
+      λ x h. ap (runs (whole r) A x) (sym (f .2)) ∙ every-at (λ t. (y : ℕ) → y < z .m → runs (whole r) A y (t .pivot) ≡ delta y (t .row)) (ts ++ us) (f .0) (S .five) (f .1) x h,
+    )
+
 -- any legal run that gives every column a row, by another engine too
-module _ (z : Shape) (A : ℕ → ℕ → ℕ) (rows v : List ℕ) (ts us : List Step) (c : Course (z .m) (z .n) A rows v ts us) where
+module _ (z : Shape) (A : ℕ → ℕ → ℕ) (ts us : List Step) (c : Course (z .m) (z .n) A (all-rows z) (range 0 (z .w)) ts us) where
+  abbrev rows : List ℕ
+  rows = all-rows z
+
+  abbrev v : List ℕ
+  v = range 0 (z .w)
+
   abbrev one : List Op
   one = ops-one A ts
 
@@ -129,6 +148,7 @@ module _ (z : Shape) (A : ℕ → ℕ → ℕ) (rows v : List ℕ) (ts us : List
   pub course-shapes : (r : Run) → r .one ≡ one → r .two ≡ two → r .three ≡ three → r .four ≡ four → r .five ≡ list-kept A ts
       → Shapes z A ts us (last-rows ts rows) r
   course-shapes r e-one e-two e-three e-four e-five = record {
+    course = c;
     two = subst (λ (M : ℕ → ℕ → ℕ). Reduced (z .m) M ts us (last-rows ts rows)) (sym two-runs ∙ sym (ap₂ (λ (a b : List Op). runs (a ++ b) A) e-one e-two)) (record {
       unit = every-of (λ t. (x : ℕ) → x < z .m → G x (t .pivot) ≡ delta x (t .row)) ts
           (λ t a x l. G-first (z .m) (z .n) A rows v ts us c t a x (c .all x l));
@@ -183,7 +203,7 @@ shapes z A fit wide order e = at-end (goes-on z A wide (p .now .cols)) e
     at-way (go f) S q = (
       f .st .steps,
       subst (λ (l : List ℕ). Shapes z A ts (f .st .steps) l (finish z A ts (ops-one A ts) cols (go f))) (walk z A fit .rows-left)
-          (course-shapes z A (all-rows z) (range 0 (z .w)) ts (f .st .steps) (course z A fit f S) (finish z A ts (ops-one A ts) cols (go f))
+          (course-shapes z A ts (f .st .steps) (course z A fit f S) (finish z A ts (ops-one A ts) cols (go f))
           refl (two-is z A fit f S) (three-is z A fit f S) refl refl),
     )
     at-way (halt j f) S q = absurd (let h : _≡_ {A = ℕ} 0 1 = cc in omega arith)

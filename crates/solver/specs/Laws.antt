@@ -9,15 +9,22 @@
 --   undo-restores        0: `slab::undo` of it makes the received slab of the finished one, every byte
 --   set-recovered        0: where the received symbols are what the matrix makes of a set, the slab read through the order is that set
 --   set-only             0: and no other set makes them
---   no-pivot-blank       6: no eligible row has a nonzero in what is left of V
---   vector-nulled        7: the vector is not all zeros, and the matrix sends it to zeros
+--   agreed               0: some set makes the received symbols exactly when the finished rows that the order does not name are zeros
+--   listed-whole         0: the list in the room is that of the defined run
+--   shaped-after         0: the matrix has the shape of RFC 6330, 5.4.2.3 to 5.4.2.6, after each phase, and each column is exactly one step's
+--   permitted-each       not 1 to 4: every row that phase one chooses is one that RFC 6330, 5.4.2.2 permits in the matrix as it stands then
+--   shaped-first         and the matrix has the shape of 5.4.2.2 after each of its steps
+--   no-pivot-blank       6: columns are left in V, and no eligible row has a nonzero there
+--   vector-nulled        7: the matrix sends the vector to zeros; it is 1 at the column without pivot and 0 at the later ones
+--   singular-never       7: and no list of operations reduces the matrix
 -- A call that is refused with 1 to 4 changes nothing: refused-same, in Taken.
 -- Assumes nothing.
 use mathlib.Core.Path.{_≡_, refl, sym, ap, _∙_, subst, fun-ext}
 use mathlib.Core.Logic.{_≢_, _↔_}
 use mathlib.Core.Bool.{Bool, true, false, cond}
-use mathlib.Core.List.{List, map}
-use Prim.Native.Nat.{ℕ, _*_, _≤_, _<_}
+use mathlib.Core.List.{List, _++_, map}
+use mathlib.Core.Option.{some}
+use Prim.Native.Nat.{ℕ, _+_, _*_, _≤_, _<_}
 use native.Mathlib.Omega.{arith}
 use borrow.Author.Tests.{leb-true, leb-false, le-leb, eq-eqb, eqb-true}
 use lib.Dec.{leb, eqb}
@@ -36,13 +43,19 @@ use Rattle.oplist.specs.Check.{shapeFine, listFine, orderFine, undoable}
 use Rattle.oplist.specs.Facts.{Rows, shape-shapeFine, order-orderFine, each-undoable}
 use Rattle.algebra.specs.Sums.{delta, pick}
 use Rattle.algebra.specs.Rows.{Good, runs, undo}
-use Rattle.algebra.specs.Solve.{Reduces, Makes}
+use Rattle.algebra.specs.Solve.{Unnamed, Reduces}
 use Rattle.algebra.specs.Flat.{Bytes, acts, length-acts, undo-acts}
-use Rattle.algebra.specs.Slab.{Source, through, solved, only}
+use Rattle.algebra.specs.Slab.{Source, through, solved, only, report}
 use Rattle.slab.specs.declared.Answer.the-variants.{InPlace}
 use Rattle.slab.specs.Replay.{readBy, slabShaped, checked as slabChecked, outcome as slabbed, replayed, undone}
-use Rattle.phases.specs.Run.{Run, whole, Answer as Told}
-use Rattle.phases.specs.Means.{Blank}
+use Rattle.rule.specs.Permitted.{Permitted}
+use Rattle.rule.specs.Rule.{chosen}
+use Rattle.phases.specs.System.{Shape, octet-rows}
+use Rattle.phases.specs.One.{Step, Phase, one, degree, phase-after, phase-one}
+use Rattle.phases.specs.Run.{Run, solved as ends-solved, whole, Answer as Told}
+use Rattle.phases.specs.Choices.{standing, permitted-then}
+use Rattle.phases.specs.Means.{Nulled, Blank}
+use Rattle.phases.specs.Shape.{First, first-shape, Shapes, shapes}
 use Rattle.phases.specs.Answers.{solved-reduces, singular-nulled}
 use Rattle.phases.specs.Answers as Ends
 use Rattle.answers.specs.declared.Report.{Report}
@@ -105,6 +118,9 @@ module _ (k m t : ℕ) (bits : List ℕ) (o : Octets) (b : Buffers) where
   abbrev run : Run
   run = runIn k m bits o
 
+  abbrev z : Shape
+  z = shapeIn k m o
+
   abbrev matrix : ℕ → ℕ → ℕ
   matrix = matrixIn k m bits o
 
@@ -148,7 +164,7 @@ module _ (k m t : ℕ) (bits : List ℕ) (o : Octets) (b : Buffers) where
       unfolding told
       reduces =
           subst (Reduces m (columnsIn k) (said .list) matrix) (sym (fun-ext (order-at T)))
-          (solved-reduces (shapeIn k m o) matrix (fit T hb ho) room false (sym (number-is T) ∙ e))
+          (solved-reduces z matrix (fit T hb ho) room false (sym (number-is T) ∙ e))
 
       slab-is : after .buffers .slab ≡ acts t (said .list) (b .slab)
       slab-is = ap (λ (x : Outcome). x .buffers .slab) (taken-is T)
@@ -254,18 +270,47 @@ module _ (k m t : ℕ) (bits : List ℕ) (o : Octets) (b : Buffers) where
         set-only C E S U =
             only m (columnsIn k) t (said .list) matrix (λ j. getD (after .buffers .order) j 0) reduces (facts T .some-bytes) (b .slab) (facts T .slab-size) hs C E S U
 
-    pub no-pivot-blank : numberOf (after .answer) ≡ 6 → Blank (shapeIn k m o) matrix (runIn k m bits o .one)
+        pub agreed : ((C : List ℕ) × Source m (columnsIn k) t matrix C (b .slab))
+            ↔ ((r : ℕ) → r < m → Unnamed (columnsIn k) (λ j. getD (after .buffers .order) j 0) r → (i : ℕ) → i < t → getD (after .buffers .slab) (r * t + i) 0 ≡ 0)
+        agreed =
+            subst (λ (s : List ℕ). ((C : List ℕ) × Source m (columnsIn k) t matrix C (b .slab))
+            ↔ ((r : ℕ) → r < m → Unnamed (columnsIn k) (λ j. getD (after .buffers .order) j 0) r → (i : ℕ) → i < t → getD s (r * t + i) 0 ≡ 0)) (sym slab-is)
+            (report m (columnsIn k) t (said .list) matrix (λ j. getD (after .buffers .order) j 0) reduces (facts T .some-bytes) (b .slab) (facts T .slab-size) hs)
+
+      solved-run : (runIn k m bits o .end ≡ ends-solved (said .order)) × (said .list ≡ whole (runIn k m bits o))
+      unfolding told
+      solved-run = Ends.solved-end room run (sym (number-is T) ∙ e)
+
+      pub listed-whole : opsOf (listed after) ≡ whole (runIn k m bits o)
+      listed-whole = says ∙ solved-run .1
+
+      -- by phase one's steps and some steps of phase two
+      pub shaped-after : (us : List Step) × Shapes z matrix (phase-one matrix z .steps) us (phase-one matrix z .now .elig ++ octet-rows z) (runIn k m bits o)
+      shaped-after = shapes z matrix (fit T hb ho) false (said .order) (solved-run .0)
+
+    module _ (accepted : Refused after → ⊥) (j : ℕ) where
+      -- after j steps
+      abbrev p : Phase
+      p = phase-after matrix z j
+
+      pub permitted-each : (x : ℕ) → chosen (one matrix) (degree matrix z) (p .now) ≡ some x
+          → Permitted (one (standing z matrix j)) (degree matrix z) (p .now .cols) (p .now .elig) x
+      permitted-each = permitted-then z matrix (fit (taken-by k m t bits o b accepted) hb ho) j
+
+      pub shaped-first : First m matrix (standing z matrix j) (p .steps) (p .now .elig ++ octet-rows z) (p .now .cols)
+      shaped-first = first-shape z matrix (fit (taken-by k m t bits o b accepted) hb ho) j
+
+    pub no-pivot-blank : numberOf (after .answer) ≡ 6 → Blank z matrix (runIn k m bits o .one)
     no-pivot-blank e =
         let T = taken-at k m t bits o b 6 e (λ h i. omega arith) in
-        Ends.no-pivot-blank (shapeIn k m o) matrix (fit T hb ho) room false (sym (number-is T) ∙ e)
+        Ends.no-pivot-blank z matrix (fit T hb ho) room false (sym (number-is T) ∙ e)
 
-    -- the vector has a one, and the matrix sends it to zeros
-    pub vector-nulled : numberOf (after .answer) ≡ 7 → Makes m (columnsIn k) matrix (λ j. getD (after .buffers .vector) j 0) (λ _. 0)
-        × ((q : ℕ) × (q < columnsIn k) × (getD (after .buffers .vector) q 0 ≡ 1))
+    pub vector-nulled : numberOf (after .answer) ≡ 7 → Nulled z matrix (λ j. getD (after .buffers .vector) j 0)
     unfolding told
     vector-nulled e =
         let T = taken-at k m t bits o b 7 e (λ h i. omega arith) in
-        let n = singular-nulled (shapeIn k m o) matrix (fit T hb ho) room false (sym (number-is T) ∙ e) in (
-          subst (λ (f : ℕ → ℕ). Makes m (columnsIn k) matrix f (λ _. 0)) (sym (fun-ext (vector-at T))) (n .sent),
-          (n .column, n .inside, vector-at T (n .column) ∙ n .one),
-        )
+        subst (Nulled z matrix) (sym (fun-ext (vector-at T))) (singular-nulled z matrix (fit T hb ho) room false (sym (number-is T) ∙ e))
+
+    pub singular-never : numberOf (after .answer) ≡ 7 → (ps : List Op) (order : ℕ → ℕ) → Reduces m (columnsIn k) ps matrix order → ⊥
+    singular-never e =
+        let T = taken-at k m t bits o b 7 e (λ h i. omega arith) in Ends.singular-never z matrix (fit T hb ho) room false (sym (number-is T) ∙ e)
