@@ -23,11 +23,12 @@ use lib.Seq.{getD-set-same, getD-set-other, ext-getD}
 use lib.Dec.{eqb}
 use borrow.Author.Count.{below-more}
 use Rattle.loops.specs.Part.{drop-next, row-within}
+use Rattle.loops.specs.Entry.{entryAt}
 use Rattle.rule.specs.Lists.{In}
 use Rattle.rule.specs.Permitted.{count}
 
 unfoldable pub bit : ℕ → List ℕ → ℕ → ℕ → Bool
-bit l m x q = eqb (getD m (x * l + q) 0) 1
+bit l m x q = eqb (entryAt l m x q) 1
 
 pub record Under (n : ℕ) (xs : List ℕ) : Type 0 where
   pub at : (k : ℕ) → k < length xs → getD xs k 0 < n

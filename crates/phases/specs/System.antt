@@ -6,9 +6,9 @@
 -- Assumes nothing.
 use mathlib.Core.Bool.{cond, _&&_}
 use mathlib.Core.List.{List, [], _∷_, _++_}
-use Prim.Native.Nat.{ℕ, zero, suc, _+_, _-_, _*_}
+use Prim.Native.Nat.{ℕ, zero, suc, _+_, _-_}
 use lib.Dec.{leb, ltb}
-use lib.ListN.{getD}
+use Rattle.loops.specs.Entry.{entryAt}
 
 -- m rows, n columns (M and L), h octet rows (H; 0 without) from row s on (S), and w columns of V at first (W): RFC 6330, 5.6 and 5.4.2.2
 pub record Shape : Type 0 where
@@ -25,7 +25,7 @@ range a (suc k) = a ∷ range (suc a) k
 -- row s + j is octet row j, whatever the binary matrix holds there
 abbrev pub combined : Shape → List ℕ → List ℕ → ℕ → ℕ → ℕ
 combined z binary octets x q =
-    cond (leb (z .s) x && ltb x (z .s + z .h)) (getD octets ((x - z .s) * z .n + q) 0) (getD binary (x * z .n + q) 0)
+    cond (leb (z .s) x && ltb x (z .s + z .h)) (entryAt (z .n) octets (x - z .s) q) (entryAt (z .n) binary x q)
 
 -- the octet rows are exchanged, one by one, with the last h rows
 abbrev pub first-rows : Shape → List ℕ

@@ -1,3 +1,4 @@
+use Rattle.loops.specs.Entry.{entry-within}
 use Rattle.grid.specs.Grid.{bit}
 use native.Mathlib.Omega.{arith}
 use borrow.Author.Needs.{needs}
@@ -17,7 +18,7 @@ shared-slice-read-result c = search needs
 
 returns : tie.Need-returns
 unfolding bit
-returns c = search needs
+returns c = let h = c .before .pre .1 in rw entry-within
 
 pub has-spec : {M : Type 1} → statement M
 has-spec = tie.close (tie.spec mul-k add-k shared-slice-read-result returns)
