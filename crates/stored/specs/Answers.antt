@@ -8,11 +8,14 @@
 --   judgedList      what writing a list answers, into a room of that many bytes
 --   Put, writeOf    the answer of writing, and the room afterwards
 --   putIn, settledList   an answer beside a room; beside the room that it leaves, which is filled, or as it was at a refusal
---   read-once, write-once   two outcomes that meet a statement are the same
+--   readNumberOf, writeNumberOf   the number of the answer, by what is refused first
+--   Read, Wrote     what `read` and `write` promise of their answer r and the rooms that they leave
+--   read-met, write-met     the answer and the rooms keep the promise
+--   read-once, write-once   two outcomes that keep a promise are the same
 -- Assumes nothing.
 use Prim.Native.Nat.{ℕ, _+_, _*_}
-use mathlib.Core.Path.{_≡_, sym, ap, _∙_}
-use mathlib.Core.Bool.{Bool, true, false, _&&_}
+use mathlib.Core.Path.{_≡_, refl, sym, ap, _∙_}
+use mathlib.Core.Bool.{Bool, true, false, cond, _&&_}
 use mathlib.Core.List.{List}
 use lib.Dec.{leb}
 use lib.ListN.{length, drop}
@@ -110,10 +113,69 @@ pub write-as : (m l : ℕ) (ws : List ℕ) (ordered : Bool) (order out : List �
 unfolding writeOf
 write-as m l ws ordered order out e f = ap (λ (a : Written). settledList a m l ws ordered order out) (sym f ∙ e)
 
--- two outcomes that meet a statement are the same
-pub read-once : (b list order l o l' o' : List ℕ) (r r' : Reading) → got r l o ≡ readOf b list order → got r' l' o' ≡ readOf b list order → got r l o ≡ got r' l' o'
-read-once b list order l o l' o' r r' e f = e ∙ sym f
+-- 10 before 2 before 4 before 8
+unfoldable pub readNumberOf : List ℕ → ℕ → ℕ → ℕ
+readNumberOf b listRoom orderRoom =
+    cond (formFine b)
+    (cond (shapeFine (rowsIn b) (columnsIn b) (opsIn b))
+    (cond (leb (opsIn b) listRoom && leb (orderSize (orderedIn b) (columnsIn b)) orderRoom)
+    (cond (listFine (rowsIn b) (wordsIn b) && orderFine (rowsIn b) (columnsIn b) (orderedIn b) (orderIn b)) 0 8) 4) 2) 10
 
-pub write-once : (m l : ℕ) (ws : List ℕ) (f : Bool) (order out x x' : List ℕ) (r r' : Written)
-    → putIn r x ≡ writeOf m l ws f order out → putIn r' x' ≡ writeOf m l ws f order out → putIn r x ≡ putIn r' x'
-write-once m l ws f order out x x' r r' e g = e ∙ sym g
+-- 2 before 4 before 8
+unfoldable pub writeNumberOf : ℕ → ℕ → List ℕ → Bool → List ℕ → ℕ → ℕ
+writeNumberOf m l ws ordered order room =
+    cond (shapeFine m l (length ws))
+    (cond (leb (formSize (length ws) l ordered) room) (cond (listFine m ws && orderFine m l ordered order) 0 8) 4) 2
+
+pub record Read (b list order : List ℕ) (r : Reading) (ws os : List ℕ) : Type 0 where
+  pub is : got r ws os ≡ readOf b list order
+  pub number-is : readNumber r ≡ readNumberOf b (length list) (length order)
+
+pub record Wrote (m l : ℕ) (ws : List ℕ) (ordered : Bool) (order out : List ℕ) (r : Written) (x : List ℕ) : Type 0 where
+  pub is : putIn r x ≡ writeOf m l ws ordered order out
+  pub number-is : writtenNumber r ≡ writeNumberOf m l ws ordered order (length out)
+
+module _ {b list order : List ℕ} {r : Reading} {ws os : List ℕ} where
+  pub read-met : got r ws os ≡ readOf b list order → Read b list order r ws os
+  unfolding readOf readNumberOf judged judgedBy
+  read-met e =
+      record {
+        is = e;
+        number-is = ap (λ (g : Got). readNumber (g .answer)) e
+            ∙ at (formFine b) (shapeFine (rowsIn b) (columnsIn b) (opsIn b)) (leb (opsIn b) (length list) && leb (orderSize (orderedIn b) (columnsIn b)) (length order))
+            (listFine (rowsIn b) (wordsIn b) && orderFine (rowsIn b) (columnsIn b) (orderedIn b) (orderIn b));
+      }
+    where
+      at : (f s p q : Bool)
+          → readNumber (settled (pickRead f (pickRead s (pickRead p (pickRead q (read.Kept (rowsIn b) (columnsIn b) (opsIn b) (orderedIn b)) read.BadList) read.NoRoom) read.BadShape) read.BadForm) b list order .answer)
+          ≡ cond f (cond s (cond p (cond q 0 8) 4) 2) 10
+      at true true true true = refl
+      at true true true false = refl
+      at true true false q = refl
+      at true false p q = refl
+      at false s p q = refl
+
+module _ {m l : ℕ} {ws : List ℕ} {ordered : Bool} {order out : List ℕ} {r : Written} {x : List ℕ} where
+  pub write-met : putIn r x ≡ writeOf m l ws ordered order out → Wrote m l ws ordered order out r x
+  unfolding writeOf writeNumberOf judgedList
+  write-met e =
+      record {
+        is = e;
+        number-is = ap (λ (g : Put). writtenNumber (g .answer)) e
+            ∙ at (shapeFine m l (length ws)) (leb (formSize (length ws) l ordered) (length out)) (listFine m ws && orderFine m l ordered order);
+      }
+    where
+      at : (s p q : Bool)
+          → writtenNumber (settledList (pickWritten s (pickWritten p (pickWritten q (written.Done (formSize (length ws) l ordered)) written.BadList) written.NoRoom) written.BadShape) m l ws ordered order out .answer)
+          ≡ cond s (cond p (cond q 0 8) 4) 2
+      at true true true = refl
+      at true true false = refl
+      at true false q = refl
+      at false p q = refl
+
+pub read-once : {b list order : List ℕ} {r r' : Reading} {l o l' o' : List ℕ} → Read b list order r l o → Read b list order r' l' o' → got r l o ≡ got r' l' o'
+read-once e f = e .is ∙ sym (f .is)
+
+pub write-once : {m l : ℕ} {ws : List ℕ} {ordered : Bool} {order out : List ℕ} {r r' : Written} {x x' : List ℕ}
+    → Wrote m l ws ordered order out r x → Wrote m l ws ordered order out r' x' → putIn r x ≡ putIn r' x'
+write-once e f = e .is ∙ sym (f .is)

@@ -7,7 +7,7 @@ ghost use Rattle.oplist.specs.Check.{listFine, has, rowsFine, orderFine};
 ghost use Rattle.stored.specs.Bytes.{number2, number4, padded};
 ghost use Rattle.stored.specs.Form.{orderSize, wordAt, wordsAt, unusedAt, unusedFine, formFine};
 ghost use Rattle.stored.specs.Laid.{headOf, wordBytes, tailBytes, laid};
-ghost use Rattle.stored.specs.Answers.{judgedBy, judged, got, readOf, judgedList, putIn, writeOf};
+ghost use Rattle.stored.specs.Answers.{judgedBy, judged, judgedList, Read, Wrote};
 
 // What reading a form answers.
 pub enum Reading {
@@ -309,7 +309,7 @@ fn fill_order(order: &[u8], room: &mut [usize])
 
 // Reads a stored list and its order into two rooms. A refusal changes neither; else zeros follow what was read.
 pub fn read(form: &[u8], list: &mut [u64], order: &mut [usize]) -> Reading
-    ensures { λ r. ⌜ got r (now (list .exit)) (now (order .exit)) ≡ readOf (now (form .entry)) (now (list .entry)) (now (order .entry)) ⌝ }
+    ensures { λ r. ⌜ Read (now (form .entry)) (now (list .entry)) (now (order .entry)) r (now (list .exit)) (now (order .exit)) ⌝ }
 {
     let answer = judge(form, list.len(), order.len());
     match answer {
@@ -461,7 +461,7 @@ pub fn write(
     order: &[usize],
     out: &mut [u8],
 ) -> Written
-    ensures { λ r. ⌜ putIn r (now (out .exit)) ≡ writeOf m l (now (list .entry)) ordered (now (order .entry)) (now (out .entry)) ⌝ }
+    ensures { λ r. ⌜ Wrote m l (now (list .entry)) ordered (now (order .entry)) (now (out .entry)) r (now (out .exit)) ⌝ }
 {
     let answer = judge_list(m, l, list, ordered, order, out.len());
     match answer {

@@ -25,7 +25,7 @@ read-requires : tie.Need-read-requires
 read-requires c κs = search needs
 
 put-answer-requires : tie.Need-put-answer-requires
-put-answer-requires c κs = read-shown _ _ _ _ _ _ (c .before .before .before .before .before .before .before .read .ensures) .filled
+put-answer-requires c κs = read-shown _ _ _ _ _ _ (c .before .before .before .before .before .before .before .read .ensures .is) .filled
 
 same-length-2 : tie.Need-same-length-2
 same-length-2 c = search needs
@@ -39,7 +39,7 @@ same-length-4 c = search needs
 returns-2 : tie.Need-returns-2
 unfolding showing
 returns-2 c =
-    let e = c .before .before .before .before .before .before .before .before .before .before .read .ensures in
+    let e = c .before .before .before .before .before .before .before .before .before .before .read .ensures .is in
     rw (le-leb _ _ (c .before .before .before .before .before .before .before .before .before .before .before .before .before .if1 .left))
     (same-screen (c .before .before .put-answer .ensures ∙ ap (puts byte _) (read-shown _ _ _ _ _ _ e .is)) (ap (λ (g : Got). g .list) e) (ap (λ (g : Got). g .order) e))
 

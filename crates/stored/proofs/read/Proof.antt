@@ -7,7 +7,7 @@ use borrow.Author.Needs.{needs}
 use lib.ListN.{length}
 use Rattle.loops.specs.Part.{rest-part}
 use Rattle.stored.specs.Bytes.{padded}
-use Rattle.stored.specs.Answers.{read-as}
+use Rattle.stored.specs.Answers.{read-as, read-met}
 use Rattle.stored.specs.Accepted.{judged-accepted, kept-placed, kept-read}
 use Rattle.stored.proofs.read.Statement.{statement}
 use Rattle.stored.proofs.read.Tie as tie
@@ -86,27 +86,27 @@ returns c =
     let a = c .before .before .before .before .before .before .before .before .before .before .before .before .before .before .before .before .args in
     let K = judged-accepted (a .form .now) (length (a .list .now)) (length (a .order .now)) _ _ _ _ (sym (c .before .before .before .before .before .before .before .before .before .before .before .before .judge .ensures) ∙ c .before .before .before .before .before .before .before .before .before .before .answer .given .1) in
     let p = kept-placed _ _ _ _ _ _ _ K in
-    kept-read (a .form .now) (a .list .now) (a .order .now) _ _ _ _ _ _ K (c .before .before .before .before .before .before .before .fill-list .ensures) (c .before .before .fill-order .ensures ∙ ap (λ (x : List ℕ). padded x (length (a .order .now))) (rest-part (a .form .now) _))
+    read-met (kept-read (a .form .now) (a .list .now) (a .order .now) _ _ _ _ _ _ K (c .before .before .before .before .before .before .before .fill-list .ensures) (c .before .before .fill-order .ensures ∙ ap (λ (x : List ℕ). padded x (length (a .order .now))) (rest-part (a .form .now) _)))
 
 returns-2 : tie.Need-returns-2
 returns-2 c =
     let a = c .before .before .before .before .before .before .args in
-    read-as (a .form .now) (a .list .now) (a .order .now) (c .before .before .judge .ensures) (c .enum-told .given .1)
+    read-met (read-as (a .form .now) (a .list .now) (a .order .now) (c .before .before .judge .ensures) (c .enum-told .given .1))
 
 returns-3 : tie.Need-returns-3
 returns-3 c =
     let a = c .before .before .before .before .before .before .args in
-    read-as (a .form .now) (a .list .now) (a .order .now) (c .before .before .judge .ensures) (c .enum-told2 .given .1)
+    read-met (read-as (a .form .now) (a .list .now) (a .order .now) (c .before .before .judge .ensures) (c .enum-told2 .given .1))
 
 returns-4 : tie.Need-returns-4
 returns-4 c =
     let a = c .before .before .before .before .before .before .args in
-    read-as (a .form .now) (a .list .now) (a .order .now) (c .before .before .judge .ensures) (c .enum-told3 .given .1)
+    read-met (read-as (a .form .now) (a .list .now) (a .order .now) (c .before .before .judge .ensures) (c .enum-told3 .given .1))
 
 returns-5 : tie.Need-returns-5
 returns-5 c =
     let a = c .before .before .before .before .before .before .args in
-    read-as (a .form .now) (a .list .now) (a .order .now) (c .before .before .judge .ensures) (c .enum-told4 .given .1)
+    read-met (read-as (a .form .now) (a .list .now) (a .order .now) (c .before .before .judge .ensures) (c .enum-told4 .given .1))
 
 pub read-spec : {M : Type 1} → statement M
 read-spec =

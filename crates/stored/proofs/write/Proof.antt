@@ -6,7 +6,7 @@ use native.Mathlib.Omega.{arith}
 use borrow.Author.Needs.{needs}
 use lib.ListN.{length}
 use Rattle.stored.specs.Bytes.{padded}
-use Rattle.stored.specs.Answers.{write-as}
+use Rattle.stored.specs.Answers.{write-as, write-met}
 use Rattle.stored.specs.Accepted.{judged-accepts, done-size, done-write}
 use Rattle.stored.specs.Laid.{laid-done, length-done}
 use Rattle.stored.proofs.write.Statement.{statement}
@@ -58,23 +58,24 @@ returns c =
     let d = sym (c .before .before .before .before .before .before .before .before .before .judge-list .ensures) ∙ c .before .before .before .before .before .before .before .answer .given .1 in
     let A = judged-accepts (a .m) (a .l) (a .list .now) (a .ordered) (a .order .now) (length (a .out .now)) _ d in
     let e = done-size (a .m) (a .l) (a .list .now) (a .ordered) (a .order .now) (length (a .out .now)) _ d in
-    done-write (a .m) (a .l) (a .list .now) (a .ordered) (a .order .now) (length (a .out .now)) (a .out .now) _ _ d
-    (c .before .before .fill-form .ensures ∙ ap (λ (x : List ℕ). padded x (length (a .out .now))) (laid-done (a .m) (a .l) (a .list .now) (a .ordered) (a .order .now) (length (a .out .now)) A _ e _ (c .before .before .before .before .before .head .ensures)))
+    write-met
+    (done-write (a .m) (a .l) (a .list .now) (a .ordered) (a .order .now) (length (a .out .now)) (a .out .now) _ _ d
+    (c .before .before .fill-form .ensures ∙ ap (λ (x : List ℕ). padded x (length (a .out .now))) (laid-done (a .m) (a .l) (a .list .now) (a .ordered) (a .order .now) (length (a .out .now)) A _ e _ (c .before .before .before .before .before .head .ensures))))
 
 returns-2 : tie.Need-returns-2
 returns-2 c =
     let a = c .before .before .before .before .before .before .args in
-    write-as (a .m) (a .l) (a .list .now) (a .ordered) (a .order .now) (a .out .now) (c .before .before .judge-list .ensures) (c .enum-told .given .1)
+    write-met (write-as (a .m) (a .l) (a .list .now) (a .ordered) (a .order .now) (a .out .now) (c .before .before .judge-list .ensures) (c .enum-told .given .1))
 
 returns-3 : tie.Need-returns-3
 returns-3 c =
     let a = c .before .before .before .before .before .before .args in
-    write-as (a .m) (a .l) (a .list .now) (a .ordered) (a .order .now) (a .out .now) (c .before .before .judge-list .ensures) (c .enum-told2 .given .1)
+    write-met (write-as (a .m) (a .l) (a .list .now) (a .ordered) (a .order .now) (a .out .now) (c .before .before .judge-list .ensures) (c .enum-told2 .given .1))
 
 returns-4 : tie.Need-returns-4
 returns-4 c =
     let a = c .before .before .before .before .before .before .args in
-    write-as (a .m) (a .l) (a .list .now) (a .ordered) (a .order .now) (a .out .now) (c .before .before .judge-list .ensures) (c .enum-told3 .given .1)
+    write-met (write-as (a .m) (a .l) (a .list .now) (a .ordered) (a .order .now) (a .out .now) (c .before .before .judge-list .ensures) (c .enum-told3 .given .1))
 
 pub write-spec : {M : Type 1} → statement M
 write-spec =
