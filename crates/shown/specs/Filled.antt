@@ -26,7 +26,7 @@ use Rattle.stored.specs.Form.{orderSize, rowsIn, columnsIn, opsIn, orderedIn, w
 use Rattle.stored.specs.Scan.{length-wordsAt}
 use Rattle.stored.specs.Answers.{readNumber, judged, Got, got, settled, readOf}
 use Rattle.stored.specs.Accepted.{length-orderIn, judged-accepted}
-use Rattle.shown.specs.Text.{listText, refusedText, answerText, mostBytes}
+use Rattle.shown.specs.Text.{listText, refusedText, answerText, mostShown}
 use Rattle.shown.specs.Put.{byte}
 
 -- n operations and the order, where there is one, are in the rooms
@@ -108,7 +108,7 @@ pickScreen false a b = b
 -- the text is put from the front of its room; the other rooms are as reading leaves them, and a form of too many bytes is refused before it is read
 unfoldable pub showing : List ℕ → List ℕ → List ℕ → List ℕ → Screen
 showing b list order out =
-    pickScreen (leb (length b) mostBytes)
+    pickScreen (leb (length b) mostShown)
     (screen (puts byte (log out 0) (answerText (judged b (length list) (length order)) b)) (readOf b list order .list) (readOf b list order .order))
     (screen (puts byte (log out 0) (refusedText 4)) list order)
 

@@ -15,7 +15,7 @@
 --   shapeText      the line of the shape: how many rows, columns and operations
 --   listText       the text of a list
 --   refusedText    the text of a refusal
---   mostBytes      the most bytes of a form that is shown
+--   mostShown      the most bytes of a form that is shown
 --   answerText     the text of what reading a form answers
 -- Assumes nothing.
 use Prim.Native.Nat.{ℕ, _+_, _/_, _%_}
@@ -114,5 +114,5 @@ answerText NoRoom b = refusedText (readNumber NoRoom)
 answerText BadList b = refusedText (readNumber BadList)
 answerText BadForm b = refusedText (readNumber BadForm)
 
-abbrev pub mostBytes : ℕ
-mostBytes = 65536
+abbrev pub mostShown : ℕ
+mostShown = 65536
