@@ -1,3 +1,4 @@
 pub mod Over
 pub mod Call
+pub mod Called
 pub mod Tests

@@ -1,7 +1,7 @@
 // The call over working rooms for any system within the bounds.
 ghost use mathlib.Core.Path.{_≡_};
 ghost use Rattle.call.specs.Call.{rowsOf};
-ghost use Rattle.programs.specs.Calls.{given as rowsGiven, Called, Solves};
+ghost use Rattle.programs.specs.Calls.{given as rowsGiven, Calls, Solves};
 use crate::writing::at_most;
 use solver::Answer;
 use solver::OctetRows;
@@ -27,7 +27,7 @@ fn call(
     order: &mut [usize],
     vector: &mut [u8],
 ) -> Answer
-    ensures { λ r. ⌜ Called (s .k) (s .m) (s .t) (now (bits .entry)) (rowsOf (rowsGiven (s .octet)) (now (octets .entry))) (now (slab .entry)) (now (list .entry)) (now (order .entry)) (now (vector .entry)) r (now (slab .exit)) (now (list .exit)) (now (order .exit)) (now (vector .exit)) ⌝ }
+    ensures { λ r. ⌜ Calls (s .k) (s .m) (s .t) (now (bits .entry)) (rowsOf (rowsGiven (s .octet)) (now (octets .entry))) (now (slab .entry)) (now (list .entry)) (now (order .entry)) (now (vector .entry)) r (now (slab .exit)) (now (list .exit)) (now (order .exit)) (now (vector .exit)) ⌝ }
 {
     let mut work = [0u8; crate::WORK_ROOM];
     let mut scratch = [0u8; crate::LINE_ROOM];

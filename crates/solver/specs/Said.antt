@@ -1,6 +1,6 @@
 -- What the answer of a defined run has.
 --   tallied              the report of a run: the operations of its list, the additions and multiplications of each phase
---   answer-number        a run is answered with the number of its answer;  answer-late   which is 0, or above 4
+--   answer-late          its number is 0, or above 4
 --   answer-listless      an answer that is not Solved has no list;  answer-fits   a list fits its room
 --   answer-report        an answer reports its counts;  answer-tallied   which are, of Solved, those of the run
 --   answer-short         order and vector have at most a place for each column
@@ -27,7 +27,7 @@ use Rattle.phases.specs.Run.{Run, End, solved as ends-solved, no-pivot, singula
 use Rattle.phases.specs.Means.{length-by-column}
 use Rattle.answers.specs.declared.Counts.{Counts}
 use Rattle.answers.specs.declared.Report.{Report}
-use Rattle.answers.specs.Answers.{numberOf, reportIn}
+use Rattle.answers.specs.Answers.{reportIn}
 use Rattle.call.specs.Call.{reportOf, answerOf}
 
 -- the additions and multiplications of a list, and of each phase of a run
@@ -45,21 +45,7 @@ tallied r =
       five = countsOf (r .five);
     }
 
--- a run is answered with the number of its answer
-pub answer-number : (room : ℕ) (r : Run) → numberOf (answerOf (answer room r)) ≡ answer room r .number
-unfolding answerOf
-answer-number room r = full (ltb room (length (whole r)))
-  where
-    at-end : (e : End) → numberOf (answerOf (ending r e)) ≡ ending r e .number
-    at-end (ends-solved order) = refl
-    at-end no-pivot = refl
-    at-end (singular x) = refl
-
-    full : (b : Bool) → numberOf (answerOf (cond b ListFull (ending r (r .end)))) ≡ cond b ListFull (ending r (r .end)) .number
-    full true = refl
-    full false = at-end (r .end)
-
--- which is 0, or above 4
+-- its number is 0, or above 4
 pub answer-late : (room : ℕ) (r : Run) → 1 ≤ answer room r .number → answer room r .number ≤ 4 → ⊥
 answer-late room r = full (ltb room (length (whole r)))
   where

@@ -28,11 +28,12 @@ use Rattle.answers.specs.Answers.{numberOf}
 use Rattle.call.specs.declared.Shape.{Shape}
 use Rattle.call.specs.Over.{at-over}
 use Rattle.call.specs.Call.{Octets, octetsIn, rowsIn, Buffers, Outcome, outcome, shaped, entered, roomyFor, ended, shapeOf, told, checked, counted, callOf}
+use Rattle.call.specs.Called.{answer-number}
 use Rattle.ending.specs.Ran.{asShape, Posed}
 use Rattle.ending.specs.Told.{posed-fit}
 use Rattle.running.specs.Lent.{Roomed}
 use Rattle.solver.specs.Checked.{Tabled, Shaped, shaped-facts, tabled-given, tabled-none, posed-is, roomed-is, at-run, at-table}
-use Rattle.solver.specs.Said.{answer-number, answer-late, answer-short}
+use Rattle.solver.specs.Said.{answer-late, answer-short}
 
 -- refused with 1 to 4
 abbrev pub Refused : Outcome → Type 0

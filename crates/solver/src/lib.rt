@@ -1,6 +1,7 @@
 // The solver: a system in; its operation list, its order and the solved slab out.
 ghost use mathlib.Core.Path.{_≡_};
-ghost use Rattle.call.specs.Call.{rowsOf, working, buffers, outcome, callOf};
+ghost use Rattle.call.specs.Call.{rowsOf, working, buffers, outcome};
+ghost use Rattle.call.specs.Called.{Called};
 ghost use Rattle.solver.specs.Judge.{ifGiven, judged};
 pub use answers::Answer;
 pub use answers::Counts;
@@ -112,7 +113,7 @@ pub fn solve(
     labels: &mut [usize],
     sizes: &mut [usize],
 ) -> Answer
-    ensures { λ r. ⌜ outcome r (buffers (now (slab .exit)) (now (list .exit)) (now (order .exit)) (now (vector .exit)) (working (now (work .exit)) (now (scratch .exit)) (now (columns .exit)) (now (rows .exit)) (now (ones .exit)) (now (degrees .exit)) (now (singles .exit)) (now (labels .exit)) (now (sizes .exit)))) ≡ callOf k m t (now (bits .entry)) (rowsOf which (now (octets .entry))) (buffers (now (slab .entry)) (now (list .entry)) (now (order .entry)) (now (vector .entry)) (working (now (work .entry)) (now (scratch .entry)) (now (columns .entry)) (now (rows .entry)) (now (ones .entry)) (now (degrees .entry)) (now (singles .entry)) (now (labels .entry)) (now (sizes .entry)))) ⌝ }
+    ensures { λ r. ⌜ Called k m t (now (bits .entry)) (rowsOf which (now (octets .entry))) (buffers (now (slab .entry)) (now (list .entry)) (now (order .entry)) (now (vector .entry)) (working (now (work .entry)) (now (scratch .entry)) (now (columns .entry)) (now (rows .entry)) (now (ones .entry)) (now (degrees .entry)) (now (singles .entry)) (now (labels .entry)) (now (sizes .entry)))) (outcome r (buffers (now (slab .exit)) (now (list .exit)) (now (order .exit)) (now (vector .exit)) (working (now (work .exit)) (now (scratch .exit)) (now (columns .exit)) (now (rows .exit)) (now (ones .exit)) (now (degrees .exit)) (now (singles .exit)) (now (labels .exit)) (now (sizes .exit))))) ⌝ }
 {
     let n = Lengths {
         octets: octets.len(),

@@ -1,4 +1,4 @@
-use Rattle.programs.specs.Calls.{called-is}
+use Rattle.programs.specs.Calls.{calls-is}
 use borrow.Author.Needs.{needs}
 use Rattle.programs.proofs.calling.call.Statement.{statement}
 use Rattle.programs.proofs.calling.call.Tie as tie
@@ -69,7 +69,7 @@ same-length-4 c = search needs
 
 -- src/calling.rt:21:1
 returns : tie.Need-returns
-returns c = called-is (c .before .before .before .before .before .before .before .before .before .before .before .before .before .before .before .before .before .before .before .before .before .before .before .before .before .before .before .before .before .before .before .before .before .before .before .before .before .before .args .octets .now) (c .before .before .before .before .before .before .before .before .before .before .before .before .before .before .before .before .before .before .before .before .before .before .before .before .before .before .before .before .before .before .before .before .before .before .before .before .before .before .args .s .octet) (c .before .before .before .before .before .before .before .before .before .before .before .before .before .before .before .before .before .before .before .before .before .before .before .before .before .before .before .before .before .before .before .octet-rows .ensures) (c .before .before .before .before .before .before .before .before .before .before .before .before .before .before .before .before .before .solve .ensures)
+returns c = calls-is (c .before .before .before .before .before .before .before .before .before .before .before .before .before .before .before .before .before .before .before .before .before .before .before .before .before .before .before .before .before .before .before .before .before .before .before .before .before .before .args .octets .now) (c .before .before .before .before .before .before .before .before .before .before .before .before .before .before .before .before .before .before .before .before .before .before .before .before .before .before .before .before .before .before .before .before .before .before .before .before .before .before .args .s .octet) (c .before .before .before .before .before .before .before .before .before .before .before .before .before .before .before .before .before .before .before .before .before .before .before .before .before .before .before .before .before .before .before .octet-rows .ensures) (c .before .before .before .before .before .before .before .before .before .before .before .before .before .before .before .before .before .solve .ensures .is)
 
 pub call-spec : {M : Type 1} → statement M
 call-spec =
