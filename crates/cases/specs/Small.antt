@@ -15,8 +15,9 @@
 --   room-any, room-one, room-none   a list room of any size, for an operation at least, for none
 --   solve      the defined answer to a binary matrix and octet rows, plain or wide, with room for so many operations
 --   stored     the bytes of a stored list with one operation, MulAssign 7 by 142
+--   text       the bytes of the lines `rows 27 columns 27 operations 1`, `mul 7 142` and `order none`
 --   Small, small   what calls with them get, some with an entry changed, some without room; two refused calls; facts of octets; the stored list,
---              written and read
+--              written, read, and shown as that text
 -- Assumes nothing.
 use mathlib.Core.Path.{_≡_, refl, sym, ap, _∙_}
 use mathlib.Core.Bool.{Bool, true, false, cond}
@@ -25,14 +26,18 @@ use Prim.Native.Nat.{ℕ, _+_, _*_, _≤_}
 use native.Mathlib.Omega.{arith}
 use borrow.Author.Tests.{le-leb, le-ltb, lt-ltb, eq-eqb}
 use lib.Dec.{eqb, ltb}
-use lib.ListN.{length, set, replicate}
+use lib.ListN.{length, drop, set, replicate}
+use lib.Seq.{sets-eq}
 use Rattle.loops.specs.Loop.{forTo, up}
 use Rattle.loops.specs.Way.{forWay}
-use Rattle.octet.specs.Octet.{add, times, product, rest, mul, squares, inverse}
+use Rattle.loops.specs.Room.{log, puts, puts-fit}
+use Rattle.octet.specs.Octet.{add, times, product, rest, mul, squares, inverse, quotient}
+use Rattle.octet.specs.Examples.{two-by-128, three-by-three, half}
 use Rattle.oplist.specs.Count.{adds, muls}
 use Rattle.oplist.specs.declared.Op.the-variants.{AddAssign, MulAssign, FMA}
 use Rattle.bounds.specs.Bounds.{mostBytes, mostOps}
 use Rattle.oplist.specs.Check.{shapeFine, opFine, listFine, orderFine}
+use Rattle.oplist.specs.Listed.{opsOf}
 use Rattle.oplist.specs.Word.{packed, meaning}
 use Rattle.params.specs.Params.{paramsOf}
 use Rattle.params.specs.declared.Sizes.{Sizes}
@@ -41,8 +46,12 @@ use Rattle.params.specs.Answers.{at-zero}
 use Rattle.params.specs.Examples as params
 use Rattle.stored.specs.Bytes.{padded}
 use Rattle.stored.specs.Form.{formOf, opsBytes, wordsAt, unusedAt, unusedFine, formFine}
-use Rattle.stored.specs.Answers.{judged, judgedBy, readOf, got}
+use Rattle.stored.specs.Answers.{judged, judgedBy, Got, got, readOf}
+use Rattle.stored.specs.declared.Reading.{Reading}
 use Rattle.stored.specs.declared.Reading.the-variants.{Kept}
+use Rattle.shown.specs.Text.{decimal, opText, opsText, orderText, shapeText, listText, answerText}
+use Rattle.shown.specs.Put.{byte}
+use Rattle.shown.specs.Filled.{screen, showing, same-screen}
 use Rattle.phases.specs.System.{Shape, range, combined}
 use Rattle.phases.specs.One.{phase-one}
 use Rattle.answers.specs.declared.Answer.the-variants.{BadCount, BadShape}
@@ -110,6 +119,12 @@ block-octets = flat (0 ∷ range 18 9)
 abbrev pub stored : List ℕ
 stored = 0 ∷ 0 ∷ 0 ∷ 14 ∷ 1 ∷ 0 ∷ 27 ∷ 0 ∷ 27 ∷ 0 ∷ 0 ∷ 0 ∷ 1 ∷ 2 ∷ 7 ∷ 0 ∷ 142 ∷ 0 ∷ []
 
+abbrev pub text : List ℕ
+text =
+    114 ∷ 111 ∷ 119 ∷ 115 ∷ 32 ∷ 50 ∷ 55 ∷ 32 ∷ 99 ∷ 111 ∷ 108 ∷ 117 ∷ 109 ∷ 110 ∷ 115 ∷ 32 ∷ 50 ∷ 55 ∷ 32 ∷ 111 ∷ 112 ∷ 101 ∷ 114 ∷ 97 ∷ 116 ∷ 105 ∷ 111 ∷ 110 ∷ 115 ∷ 32 ∷ 49 ∷ 10 ∷
+    109 ∷ 117 ∷ 108 ∷ 32 ∷ 55 ∷ 32 ∷ 49 ∷ 52 ∷ 50 ∷ 10 ∷
+    111 ∷ 114 ∷ 100 ∷ 101 ∷ 114 ∷ 32 ∷ 110 ∷ 111 ∷ 110 ∷ 101 ∷ 10 ∷ []
+
 -- what a call with each system gets; with no room, what was recorded does not fit; a call with no symbols, or with too few rows, is refused and changes nothing
 pub record Small : Type 0 where
   pub ten-is : (g : Sizes) → paramsOf 10 ≡ Found g → shapeOf g (g .h) 27 ≡ ten
@@ -125,9 +140,11 @@ pub record Small : Type 0 where
   pub no-room-fma : Gets room-none Q (with 0 0 3 Q-octets) ListFull
   pub no-count : (m t : ℕ) (bits : List ℕ) (o : Octets) (b : Buffers) → callOf 0 m t bits o b ≡ outcome BadCount b
   pub too-few-rows : (t : ℕ) (bits : List ℕ) (o : Octets) (b : Buffers) → callOf 10 26 t bits o b ≡ outcome BadShape b
-  pub octet-facts : (mul 2 128 ≡ 29) × (mul 3 3 ≡ 5) × (inverse 2 ≡ 142)
+  pub octet-facts : (mul 2 128 ≡ 29) × (mul 3 3 ≡ 5) × (quotient 1 2 ≡ 142)
   pub stored-form : formOf 27 27 (MulAssign 7 142 ∷ []) false [] ≡ stored
-  pub stored-read : readOf stored (0 ∷ []) [] ≡ got (Kept 27 27 1 false) (packed (MulAssign 7 142) ∷ []) []
+  pub stored-read : (list order : List ℕ) → 1 ≤ length list → readOf stored list order ≡ got (Kept 27 27 1 false) (padded (packed (MulAssign 7 142) ∷ []) (length list)) (padded [] (length order))
+  pub stored-shown : (list order out : List ℕ) → 1 ≤ length list → 53 ≤ length out
+      → showing stored list order out ≡ screen (log (text ++ drop 53 out) 53) (padded (packed (MulAssign 7 142) ∷ []) (length list)) (padded [] (length order))
   pub block-refused : Gets room-any block block-octets NoPivot
   pub block-steps : length (phase-one (combined ten block block-octets) ten .steps) ≡ 16
   pub block-wide : solve 1000 true block block-octets ≡ Solved [] (7 ∷ range 0 7 ++ range 17 10 ++ range 8 9) no-counts no-counts
@@ -161,10 +178,6 @@ run-refused : run-of (flat (range 0 7) ++ zeros ++ flat (range 17 10)) (flat (ra
 unfolding add times product rest mul squares inverse forTo up forWay
 run-refused = refl
 
-facts : (mul 2 128 ≡ 29) × (mul 3 3 ≡ 5) × (inverse 2 ≡ 142)
-unfolding add times product rest mul squares inverse
-facts = (refl, refl, refl)
-
 run-block : run-of block block-octets ≡ record { one = []; two = []; three = []; four = []; five = []; end = no-pivot }
 unfolding add times product rest mul squares inverse forTo up forWay
 run-block = refl
@@ -189,9 +202,27 @@ form-is : formOf 27 27 (MulAssign 7 142 ∷ []) false [] ≡ stored
 unfolding formOf opsBytes
 form-is = refl
 
-read-is : readOf stored (0 ∷ []) [] ≡ got (Kept 27 27 1 false) (packed (MulAssign 7 142) ∷ []) []
-unfolding readOf judged judgedBy formFine unusedFine unusedAt wordsAt padded shapeFine listFine orderFine opFine packed meaning
-read-is = refl
+kept-is : (n k : ℕ) → 1 ≤ n → judged stored n k ≡ Kept 27 27 1 false
+unfolding judged judgedBy formFine unusedFine unusedAt wordsAt shapeFine listFine orderFine opFine meaning
+kept-is n k h = rw (le-leb 1 n h, le-leb 0 k (omega arith))
+
+read-is : (list order : List ℕ) → 1 ≤ length list → readOf stored list order ≡ got (Kept 27 27 1 false) (padded (packed (MulAssign 7 142) ∷ []) (length list)) (padded [] (length order))
+unfolding readOf wordsAt packed
+read-is list order h = rw (kept-is (length list) (length order) h)
+
+text-is : answerText (Kept 27 27 1 false) stored ≡ text
+unfolding listText shapeText opsText opText orderText decimal opsOf wordsAt meaning
+text-is = refl
+
+shown-is : (list order out : List ℕ) → 1 ≤ length list → 53 ≤ length out
+    → showing stored list order out ≡ screen (log (text ++ drop 53 out) 53) (padded (packed (MulAssign 7 142) ∷ []) (length list)) (padded [] (length order))
+unfolding showing
+shown-is list order out h k =
+    let r = read-is list order h in
+    same-screen
+    (ap (λ (a : Reading). puts byte (log out 0) (answerText a stored)) (kept-is (length list) (length order) h)
+    ∙ ap (puts byte (log out 0)) text-is ∙ puts-fit byte text out 0 k ∙ ap (λ (l : List ℕ). log l 53) (sets-eq text out 0 k))
+    (ap (λ (g : Got). g .list) r) (ap (λ (g : Got). g .order) r)
 
 ten-shape : (g : Sizes) → paramsOf 10 ≡ Found g → shapeOf g (g .h) 27 ≡ ten
 ten-shape g e = let z : Found g ≡ Found _ = sym e ∙ params.ten in cc
@@ -240,9 +271,10 @@ small = record {
   no-room-fma = gets Q (with 0 0 3 Q-octets) (refl, refl, refl) run-fma true room-none (λ n h. lt-ltb n 1 (omega arith));
   no-count = no-symbols;
   too-few-rows = few-rows;
-  octet-facts = facts;
+  octet-facts = (two-by-128, three-by-three, half);
   stored-form = form-is;
   stored-read = read-is;
+  stored-shown = shown-is;
   block-refused = gets block block-octets (refl, refl, refl) run-block false room-any (λ n h. le-ltb n 0 h);
   block-steps = block-takes;
   block-wide = block-goes-on;
