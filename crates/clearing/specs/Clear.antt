@@ -1,5 +1,4 @@
 -- A step's additions, as they are recorded: each row below with a nonzero in the pivot's column gets a multiple of the chosen row.
---   binary-at, octet-at   the entry of row y in column q, of a binary matrix and of octet rows from row s on
 --   Binary           rows with a 0 or a 1 in a column
 --   Listed           a journal is another with a list of operations more
 --   listed-one       two outcomes that meet it are equal
@@ -25,6 +24,7 @@ use lib.ListN.{length, getD, drop}
 use borrow.Author.Tests.{eqb-true, eqb-false}
 use Rattle.oplist.specs.Multiple.{multiple}
 use Rattle.loops.specs.Part.{drop-next, row-within}
+use Rattle.loops.specs.Entry.{entryAt, entry-within}
 use Rattle.loops.specs.Room.{notes, notes-append}
 use Rattle.oplist.specs.declared.Op.{Op}
 use Rattle.oplist.specs.declared.Op.the-variants.{AddAssign}
@@ -39,14 +39,8 @@ use Rattle.phases.specs.Forward.{clears-alike, entry-multiple}
 use Rattle.phases.specs.Fit.{rows-once, less?}
 use Rattle.tally.specs.Book.{Book, note, Noted, Fair, fair-note, length-note}
 
-unfoldable pub binary-at : ℕ → List ℕ → ℕ → ℕ → ℕ
-binary-at l m q y = getD m (y * l + q) 0
-
-unfoldable pub octet-at : ℕ → ℕ → List ℕ → ℕ → ℕ → ℕ
-octet-at l s m q y = getD m ((y - s) * l + q) 0
-
 pub record Binary (l : ℕ) (m : List ℕ) (q : ℕ) (ys : List ℕ) : Type 0 where
-  pub at : (k : ℕ) → k < length ys → binary-at l m q (getD ys k 0) ≤ 1
+  pub at : (k : ℕ) → k < length ys → entryAt l m (getD ys k 0) q ≤ 1
 
 -- h is g with the operations os more; the room keeps its length and no count wraps
 pub record Listed (g : Book) (os : List Op) (h : Book) : Type 0 where
@@ -113,43 +107,44 @@ module _ {f : ℕ → ℕ} {x : ℕ} {ys : List ℕ} {g₀ g : Book} {k : ℕ} (
   }
 
 -- a binary entry by the code's test
-pub bit-one : (l : ℕ) (m : List ℕ) (y q : ℕ) → bit l m y q ≡ true → binary-at l m q y ≡ 1
-unfolding bit binary-at
-bit-one l m y q e = eqb-true (getD m (y * l + q) 0) 1 e
+pub bit-one : (l : ℕ) (m : List ℕ) (y q : ℕ) → bit l m y q ≡ true → entryAt l m y q ≡ 1
+unfolding bit
+bit-one l m y q e = eqb-true (entryAt l m y q) 1 e
 
-pub bit-none : (l : ℕ) (m : List ℕ) (y q : ℕ) → binary-at l m q y ≤ 1 → bit l m y q ≡ false → binary-at l m q y ≡ 0
-unfolding bit binary-at
-bit-none l m y q h e = let d : (getD m (y * l + q) 0 ≡ 1 → ⊥) = eqb-false (getD m (y * l + q) 0) 1 e in omega arith
+pub bit-none : (l : ℕ) (m : List ℕ) (y q : ℕ) → entryAt l m y q ≤ 1 → bit l m y q ≡ false → entryAt l m y q ≡ 0
+unfolding bit
+bit-none l m y q h e = let d : (entryAt l m y q ≡ 1 → ⊥) = eqb-false (entryAt l m y q) 1 e in omega arith
 
 -- the octet rows by place
 pub octet-within : {h l n j q : ℕ} → h * l ≤ n → j < h → q < l → j * l + q < n
 octet-within {h} {l} {n} {j} {q} f i k = omega (arith, row-within l h j i)
 
 -- the loop over the octet rows: row s + j is octet row j
-octet-here : (l s : ℕ) (octets : List ℕ) (q h j : ℕ) → j < h → octet-at l s octets q (getD (range s h) j 0) ≡ getD octets (j * l + q) 0
-unfolding octet-at
-octet-here l s octets q h j i =
+octet-here : (l s : ℕ) (octets : List ℕ) (q h j : ℕ) → q < l → j < h → entryAt l octets (getD (range s h) j 0 - s) q ≡ getD octets (j * l + q) 0
+octet-here l s octets q h j k i =
     let e : getD (range s h) j 0 - s ≡ j = omega (arith, getD-range s h j i) in
-    ap (λ (k : ℕ). getD octets (k * l + q) 0) e
+    ap (λ (x : ℕ). entryAt l octets x q) e ∙ entry-within l octets j q k
 
 pub record Multiples (l s : ℕ) (octets : List ℕ) (q x h : ℕ) (g₀ : Book) (j : ℕ) (g : Book) : Type 0 where
-  pub inv : Clearing (octet-at l s octets q) x (range s h) g₀ j g
+  pub column : q < l
+  pub inv : Clearing (λ y. entryAt l octets (y - s) q) x (range s h) g₀ j g
 
-pub octet-start : {l s q x h : ℕ} {octets : List ℕ} {g : Book} → Fair g → Multiples l s octets q x h g 0 g
-octet-start f = record { inv = clear-start f }
+pub octet-start : {l s q x h : ℕ} {octets : List ℕ} {g : Book} → q < l → Fair g → Multiples l s octets q x h g 0 g
+octet-start k f = record { column = k; inv = clear-start f }
 
 module _ {l s q x h j : ℕ} {octets : List ℕ} {g₀ g : Book} (c : Multiples l s octets q x h g₀ j g) where
   pub octet-none : j < h → getD octets (j * l + q) 0 ≡ 0 → Multiples l s octets q x h g₀ (j + 1) g
-  octet-none i e = record { inv = clear-none (c .inv) (omega (arith, length-range s h)) (octet-here l s octets q h j i ∙ e) }
+  octet-none i e = record { column = c .column; inv = clear-none (c .inv) (omega (arith, length-range s h)) (octet-here l s octets q h j (c .column) i ∙ e) }
 
   pub octet-next : {g′ : Book} {o : Op} → j < h → (getD octets (j * l + q) 0 ≡ 0 → ⊥) → o ≡ multiple (getD octets (j * l + q) 0) (s + j) x → Noted g o g′
       → Multiples l s octets q x h g₀ (j + 1) g′
   octet-next i n e d = record {
-    inv = clear-next (c .inv) (omega (arith, length-range s h)) (λ z. n (sym (octet-here l s octets q h j i) ∙ z))
-        (e ∙ sym (ap₂ (λ (a b : ℕ). multiple a b x) (octet-here l s octets q h j i) (getD-range s h j i))) d;
+    column = c .column;
+    inv = clear-next (c .inv) (omega (arith, length-range s h)) (λ z. n (sym (octet-here l s octets q h j (c .column) i) ∙ z))
+        (e ∙ sym (ap₂ (λ (a b : ℕ). multiple a b x) (octet-here l s octets q h j (c .column) i) (getD-range s h j i))) d;
   }
 
-  pub octet-end : h ≤ j → Listed g₀ (clears (octet-at l s octets q) x (range s h)) g
+  pub octet-end : h ≤ j → Listed g₀ (clears (λ y. entryAt l octets (y - s) q) x (range s h)) g
   octet-end i = clear-end (c .inv) (omega (arith, length-range s h))
 
 entry-append : (c y x : ℕ) (os ps : List Op) → entry c y x (os ++ ps) ≡ entry c y x os ++ ps
@@ -172,13 +167,12 @@ outside z fits y i = go (less? y (z .s)) (less? y (z .s + z .h))
 
 module _ (z : Shape) (binary octets : List ℕ) (q x : ℕ) where
   pub cleared : (ys : List ℕ) → ((y : ℕ) → In y ys → (y < z .s) ⊎ (z .s + z .h ≤ y)) → {g h k : Book}
-      → Listed g (clears (binary-at (z .n) binary q) x ys) h
-      → Listed h (clears (octet-at (z .n) (z .s) octets q) x (octet-rows z)) k
+      → Listed g (clears (λ y. entryAt (z .n) binary y q) x ys) h
+      → Listed h (clears (λ y. entryAt (z .n) octets (y - z .s) q) x (octet-rows z)) k
       → Listed g (clears (λ y. combined z binary octets y q) x (ys ++ octet-rows z)) k
-  unfolding binary-at octet-at
   cleared ys out {g} {h} {k} a b =
-      let ea = clears-alike (binary-at (z .n) binary q) (λ y. combined z binary octets y q) x ys (λ y m. sym (combined-binary z binary octets y q (out y (member-in y ys m)))) in
-      let eb = clears-alike (octet-at (z .n) (z .s) octets q) (λ y. combined z binary octets y q) x (octet-rows z)
+      let ea = clears-alike (λ y. entryAt (z .n) binary y q) (λ y. combined z binary octets y q) x ys (λ y m. sym (combined-binary z binary octets y q (out y (member-in y ys m)))) in
+      let eb = clears-alike (λ y. entryAt (z .n) octets (y - z .s) q) (λ y. combined z binary octets y q) x (octet-rows z)
       (λ y m. let r = in-range (z .s) (z .h) y (member-in y (octet-rows z) m) in sym (combined-octet z binary octets y q (r .0) (r .1))) in
       subst (λ (os : List Op). Listed g os k) (sym (clears-append (λ y. combined z binary octets y q) x ys (octet-rows z)))
       (listed-then (subst (λ (os : List Op). Listed g os h) ea a) (subst (λ (os : List Op). Listed h os k) eb b))

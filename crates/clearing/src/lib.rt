@@ -1,11 +1,12 @@
 // A step of phase one, recorded: the chosen row is added to the rows below it with a nonzero in its column, binary rows first, then octet rows.
-ghost use Prim.Native.Nat.{_+_, _*_, _≤_, _<_};
+ghost use Prim.Native.Nat.{_+_, _-_, _*_, _≤_, _<_};
 ghost use lib.ListN.{length};
+ghost use Rattle.loops.specs.Entry.{entryAt};
 ghost use Rattle.phases.specs.System.{range};
 ghost use Rattle.phases.specs.One.{clears};
 ghost use Rattle.grid.specs.Grid.{Under, Rows};
 ghost use Rattle.tally.specs.Book.{book, Fair};
-ghost use Rattle.clearing.specs.Clear.{binary-at, octet-at, Binary, Listed};
+ghost use Rattle.clearing.specs.Clear.{Binary, Listed};
 use oplist::Op;
 use tally::Tally;
 
@@ -21,7 +22,7 @@ pub fn clear_rows(
 ) -> Tally
     requires { ⌜ (Rows l (length (now bits)) (now ys)) × (Binary l (now bits) q (now ys)) × (Under 65536 (now ys)) × (q < l) × (x < 65536) ⌝ }
     requires { ⌜ Fair (book (now list) t) ⌝ }
-    ensures { λ r. ⌜ Listed (book (now (list .entry)) t) (clears (binary-at l (now (bits .entry)) q) x (now (ys .entry))) (book (now (list .exit)) r) ⌝ }
+    ensures { λ r. ⌜ Listed (book (now (list .entry)) t) (clears (λ y. entryAt l (now (bits .entry)) y q) x (now (ys .entry))) (book (now (list .exit)) r) ⌝ }
 {
     let mut r = t;
     let mut k = 0;
@@ -48,7 +49,7 @@ pub fn clear_octets(
 ) -> Tally
     requires { ⌜ (h * l ≤ length (now octets)) × (s + h ≤ 65536) × (q < l) × (x < 65536) ⌝ }
     requires { ⌜ Fair (book (now list) t) ⌝ }
-    ensures { λ r. ⌜ Listed (book (now (list .entry)) t) (clears (octet-at l s (now (octets .entry)) q) x (range s h)) (book (now (list .exit)) r) ⌝ }
+    ensures { λ r. ⌜ Listed (book (now (list .entry)) t) (clears (λ y. entryAt l (now (octets .entry)) (y - s) q) x (range s h)) (book (now (list .exit)) r) ⌝ }
 {
     let mut r = t;
     let mut j = 0;

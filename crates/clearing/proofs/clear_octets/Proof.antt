@@ -17,7 +17,7 @@ abbrev μ-loop : tie.MeasureT-loop
 μ-loop octets l s h q x list₀ r₀ j₀ list r j = h - j
 
 loop-holds : tie.Need-loop-holds Inv-loop μ-loop
-loop-holds c = octet-start (c .before .before .pre .1)
+loop-holds c = let p = c .before .before .pre in octet-start (p .0 .2) (p .1)
 
 mul-k : tie.Need-mul-k Inv-loop μ-loop
 mul-k c = record { fits = omega (arith, octet-within (c .before .before .before .before .pre .0 .0) (c .loop-test .taken) (c .before .before .before .before .pre .0 .2)) }

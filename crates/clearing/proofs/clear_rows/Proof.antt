@@ -4,13 +4,14 @@ use mathlib.Core.Logic.{⊎-elim}
 use Prim.Native.Nat.{_-_}
 use lib.ListN.{length}
 use borrow.Author.Needs.{needs}
+use Rattle.loops.specs.Entry.{entryAt}
 use Rattle.tally.specs.Book.{book}
-use Rattle.clearing.specs.Clear.{binary-at, Clearing, clear-start, clear-none, clear-one, clear-end, bit-one, bit-none}
+use Rattle.clearing.specs.Clear.{Clearing, clear-start, clear-none, clear-one, clear-end, bit-one, bit-none}
 use Rattle.clearing.proofs.clear_rows.Statement.{statement}
 use Rattle.clearing.proofs.clear_rows.Tie as tie
 
 abbrev Inv-loop : tie.InvT-loop
-Inv-loop bits l q x ys list₀ r₀ k₀ list r k = Clearing (binary-at l bits q) x ys (book list₀ r₀) k (book list r)
+Inv-loop bits l q x ys list₀ r₀ k₀ list r k = Clearing (λ y. entryAt l bits y q) x ys (book list₀ r₀) k (book list r)
 
 abbrev μ-loop : tie.MeasureT-loop
 μ-loop bits l q x ys list₀ r₀ k₀ list r k = length ys - k
