@@ -24,6 +24,7 @@ use lib.Seq.{take-at, ext-getD}
 use lib.Dec.{eqb}
 use borrow.Author.Tests.{eqb-true}
 use Rattle.loops.specs.Part.{row-within}
+use Rattle.loops.specs.Entry.{entryAt, entry-past}
 use Rattle.rule.specs.Lists.{In, Nodup, filter}
 use Rattle.rule.specs.Sets.{in-filter, nodup-filter, in-at}
 use Rattle.rule.specs.Permitted.{count}
@@ -150,8 +151,7 @@ beyond : (l : ℕ) (bits C : List ℕ) (m x : ℕ) → length bits ≤ m * l →
 unfolding bit
 beyond l bits [] m x h i = refl
 beyond l bits (q ∷ C) m x h i =
-    let e : getD bits (x * l + q) 0 ≡ 0 = List·getD-eq-default bits 0 (omega (arith, mul-le-mul-right l i)) in
-    rw e (beyond l bits C m x h i)
+    rw (entry-past l bits x q (omega (arith, mul-le-mul-right l i))) (beyond l bits C m x h i)
 
 module _ (z : Shape) (fits : z .s + z .h + z .h ≤ z .m) where
   pub rows-low : (y : ℕ) → In y (first-rows z) → y < z .m
@@ -270,6 +270,6 @@ pub opened-state : {z : Shape} {bits c d fig deg s labels : List ℕ} {n next : 
 opened-state {z} o = ap₂ (λ (a : List ℕ) (b : Marks). record { cols = range 0 (z .w); elig = first-rows z; singles = a; marks = b }) (o .singles) (o .marks)
 
 -- that state is the definition's, over the binary matrix
-pub begins : (z : Shape) (bits : List ℕ) → start (bit (z .n) bits) (range 0 (z .w)) (first-rows z) (z .w) ≡ begin (λ x q. getD bits (x * z .n + q) 0) z .now
+pub begins : (z : Shape) (bits : List ℕ) → start (bit (z .n) bits) (range 0 (z .w)) (first-rows z) (z .w) ≡ begin (entryAt (z .n) bits) z .now
 unfolding bit
 begins z bits = refl

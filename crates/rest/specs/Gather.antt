@@ -1,5 +1,4 @@
 -- Phase four over the lent binary matrix (RFC 6330, 5.4.2.5): each chosen row gets the rows in whose columns it has a one.
---   cell l bits x q    the entry of row x in column q
 --   paired qs ys       steps with these columns and rows
 --   fourth             the journal after phase four
 --   Chosen             what it needs: the matrix, columns and rows by place, i rows chosen of l
@@ -20,6 +19,7 @@ use lib.ListN.{length, getD, take, drop, length-drop}
 use lib.Seq.{getD-take, getD-drop, length-take-le}
 use borrow.Author.Tests.{eqb-true, eqb-false}
 use Rattle.loops.specs.Part.{drop-next}
+use Rattle.loops.specs.Entry.{entryAt}
 use Rattle.loops.specs.Room.{notes, notes-append}
 use Rattle.oplist.specs.declared.Op.{Op}
 use Rattle.oplist.specs.declared.Op.the-variants.{AddAssign}
@@ -29,9 +29,6 @@ use Rattle.grid.specs.Grid.{bit, Under, gone}
 use Rattle.tally.specs.declared.Tally.{Tally}
 use Rattle.tally.specs.Book.{Book, book, afresh, note, Fair, Noted, anew, fair-notes, fair-anew, length-notes}
 
-abbrev pub cell : ℕ → List ℕ → ℕ → ℕ → ℕ
-cell l bits x q = getD bits (x * l + q) 0
-
 abbrev pub paired : List ℕ → List ℕ → List Step
 paired [] ys = []
 paired (q ∷ qs) [] = []
@@ -39,7 +36,7 @@ paired (q ∷ qs) (y ∷ ys) = record { row = y; pivot = q; under = []; left = [
 
 -- chosen are the rows at the first i places; phase two's stand behind them, beside their columns
 unfoldable pub fourth : List ℕ → ℕ → ℕ → List ℕ → List ℕ → Book → Book
-fourth bits l i c d g = notes note (anew g) (phase-four (cell l bits) (take i d) (paired (take (l - i) (drop i c)) (take (l - i) (drop i d))))
+fourth bits l i c d g = notes note (anew g) (phase-four (entryAt l bits) (take i d) (paired (take (l - i) (drop i c)) (take (l - i) (drop i d))))
 
 pub record Chosen (bits : List ℕ) (l i : ℕ) (c d : List ℕ) (g : Book) : Type 0 where
   pub fair : Fair g
@@ -48,7 +45,7 @@ pub record Chosen (bits : List ℕ) (l i : ℕ) (c d : List ℕ) (g : Book) : Ty
   pub rows : l ≤ length d
   pub under : Under l c
   pub inside : (p : ℕ) → p < i → getD d p 0 * l + l ≤ length bits
-  pub binary : (p q : ℕ) → p < i → q < l → cell l bits (getD d p 0) q ≤ 1
+  pub binary : (p q : ℕ) → p < i → q < l → entryAt l bits (getD d p 0) q ≤ 1
   pub few : (p : ℕ) → p < l → getD d p 0 < 65536
 
 -- what one row needs
@@ -57,7 +54,7 @@ pub record Gathering (bits : List ℕ) (l x : ℕ) (cs ys : List ℕ) (g : Book)
   pub same : length cs ≡ length ys
   pub under : Under l cs
   pub inside : x * l + l ≤ length bits
-  pub binary : (q : ℕ) → q < l → cell l bits x q ≤ 1
+  pub binary : (q : ℕ) → q < l → entryAt l bits x q ≤ 1
   pub small : x < 65536
   pub few : Under 65536 ys
 
@@ -66,7 +63,7 @@ pub record One (bits : List ℕ) (l x q y : ℕ) (g : Book) : Type 0 where
   pub fair : Fair g
   pub column : q < l
   pub inside : x * l + l ≤ length bits
-  pub binary : cell l bits x q ≤ 1
+  pub binary : entryAt l bits x q ≤ 1
   pub small : x < 65536
   pub few : y < 65536
 
@@ -95,13 +92,13 @@ four-alike A B (x ∷ xs) ts h =
 
 pub fourth-is : (bits : List ℕ) (l i : ℕ) (c d : List ℕ) (g : Book) (A : ℕ → ℕ → ℕ) (xs : List ℕ) (ts : List Step)
     → xs ≡ take i d → pivots-of ts ≡ take (l - i) (drop i c) → rows-of ts ≡ take (l - i) (drop i d)
-    → ((p k : ℕ) → p < length xs → k < length (pivots-of ts) → A (getD xs p 0) (getD (pivots-of ts) k 0) ≡ cell l bits (getD xs p 0) (getD (pivots-of ts) k 0))
+    → ((p k : ℕ) → p < length xs → k < length (pivots-of ts) → A (getD xs p 0) (getD (pivots-of ts) k 0) ≡ entryAt l bits (getD xs p 0) (getD (pivots-of ts) k 0))
     → fourth bits l i c d g ≡ notes note (anew g) (phase-four A xs ts)
 unfolding fourth
 fourth-is bits l i c d g A xs ts e f r h =
     sym (ap (notes note (anew g))
-    (four-alike A (cell l bits) xs ts h ∙ four-paired (cell l bits) xs ts
-    ∙ ap₂ (λ (a : List ℕ) (b : List Step). phase-four (cell l bits) a b) e (ap₂ paired f r)))
+    (four-alike A (entryAt l bits) xs ts h ∙ four-paired (entryAt l bits) xs ts
+    ∙ ap₂ (λ (a : List ℕ) (b : List Step). phase-four (entryAt l bits) a b) e (ap₂ paired f r)))
 
 -- with the operations os noted, g would be what it is to become, end
 pub record Left (end g : Book) (os : List Op) : Type 0 where
@@ -128,7 +125,7 @@ module _ {end g : Book} {os : List Op} (L : Left end g os) where
 -- one entry: as it is a one, or not
 module _ {bits : List ℕ} {l x q y : ℕ} {g : Book} (O : One bits l x q y g) where
   abbrev value : ℕ
-  value = cell l bits x q
+  value = entryAt l bits x q
 
   pub one-noted : {h : Book} {b : Bool} → b ≡ bit l bits x q → b ≡ true → Noted g (AddAssign x y) h → h ≡ notes note g (entry value x y [])
   unfolding notes bit
@@ -147,15 +144,15 @@ entry-append (suc (suc v)) x y os = refl
 
 -- row x has what it gets from the places before k
 abbrev gathered : List ℕ → ℕ → ℕ → List ℕ → List ℕ → ℕ → List Op
-gathered bits l x cs ys k = gather (cell l bits) x (paired (drop k cs) (drop k ys))
+gathered bits l x cs ys k = gather (entryAt l bits) x (paired (drop k cs) (drop k ys))
 
 pub record Passing (bits : List ℕ) (l x : ℕ) (cs ys : List ℕ) (g₀ : Book) (k : ℕ) (g : Book) : Type 0 where
   pub within : k ≤ length cs
   pub needs : Gathering bits l x cs ys g₀
-  pub left : Left (notes note g₀ (gather (cell l bits) x (paired cs ys))) g (gathered bits l x cs ys k)
+  pub left : Left (notes note g₀ (gather (entryAt l bits) x (paired cs ys))) g (gathered bits l x cs ys k)
 
 pub passing-start : {bits : List ℕ} {l x : ℕ} {cs ys : List ℕ} {g : Book} → Gathering bits l x cs ys g → Passing bits l x cs ys g 0 g
-passing-start {bits} {l} {x} {cs} {ys} {g} G = record { within = omega arith; needs = G; left = left-start g (gather (cell l bits) x (paired cs ys)) (G .fair) }
+passing-start {bits} {l} {x} {cs} {ys} {g} G = record { within = omega arith; needs = G; left = left-start g (gather (entryAt l bits) x (paired cs ys)) (G .fair) }
 
 module _ {bits : List ℕ} {l x : ℕ} {cs ys : List ℕ} {g₀ : Book} {k : ℕ} {g : Book} (P : Passing bits l x cs ys g₀ k g) where
   pub passing-one : k < length cs → One bits l x (getD cs k 0) (getD ys k 0) g
@@ -168,32 +165,32 @@ module _ {bits : List ℕ} {l x : ℕ} {cs ys : List ℕ} {g₀ : Book} {k : ℕ
     few = P .needs .few .at k (omega (arith, P .needs .same));
   }
 
-  pub passing-next : {h : Book} → k < length cs → h ≡ notes note g (entry (cell l bits x (getD cs k 0)) x (getD ys k 0) []) → Passing bits l x cs ys g₀ (k + 1) h
+  pub passing-next : {h : Book} → k < length cs → h ≡ notes note g (entry (entryAt l bits x (getD cs k 0)) x (getD ys k 0) []) → Passing bits l x cs ys g₀ (k + 1) h
   passing-next {h} j e = record {
     within = omega arith;
     needs = P .needs;
-    left = left-some (P .left) (entry (cell l bits x (getD cs k 0)) x (getD ys k 0) [])
-        (ap₂ (λ (a b : List ℕ). gather (cell l bits) x (paired a b)) (drop-next cs k j) (drop-next ys k (omega (arith, P .needs .same)))
-        ∙ entry-append (cell l bits x (getD cs k 0)) x (getD ys k 0) (gathered bits l x cs ys (k + 1))) e;
+    left = left-some (P .left) (entry (entryAt l bits x (getD cs k 0)) x (getD ys k 0) [])
+        (ap₂ (λ (a b : List ℕ). gather (entryAt l bits) x (paired a b)) (drop-next cs k j) (drop-next ys k (omega (arith, P .needs .same)))
+        ∙ entry-append (entryAt l bits x (getD cs k 0)) x (getD ys k 0) (gathered bits l x cs ys (k + 1))) e;
   }
 
   pub passing-length : length (g .words) ≡ length (g₀ .words)
-  passing-length = left-length (P .left) ∙ length-notes (gather (cell l bits) x (paired cs ys)) g₀
+  passing-length = left-length (P .left) ∙ length-notes (gather (entryAt l bits) x (paired cs ys)) g₀
 
-  pub passing-end : length cs ≤ k → g ≡ notes note g₀ (gather (cell l bits) x (paired cs ys))
-  passing-end h = left-end (P .left) (ap (λ (a : List ℕ). gather (cell l bits) x (paired a (drop k ys))) (gone cs k h))
+  pub passing-end : length cs ≤ k → g ≡ notes note g₀ (gather (entryAt l bits) x (paired cs ys))
+  passing-end h = left-end (P .left) (ap (λ (a : List ℕ). gather (entryAt l bits) x (paired a (drop k ys))) (gone cs k h))
 
 -- the chosen rows before place p have what they get
 abbrev steps : ℕ → ℕ → List ℕ → List ℕ → List Step
 steps l i c d = paired (take (l - i) (drop i c)) (take (l - i) (drop i d))
 
 abbrev from-place : List ℕ → ℕ → ℕ → List ℕ → List ℕ → ℕ → List Op
-from-place bits l i c d p = phase-four (cell l bits) (drop p (take i d)) (steps l i c d)
+from-place bits l i c d p = phase-four (entryAt l bits) (drop p (take i d)) (steps l i c d)
 
 pub record Choosing (bits : List ℕ) (l i : ℕ) (c d : List ℕ) (g₀ : Book) (p : ℕ) (g : Book) : Type 0 where
   pub within : p ≤ i
   pub needs : Chosen bits l i c d g₀
-  pub left : Left (notes note (anew g₀) (phase-four (cell l bits) (take i d) (steps l i c d))) g (from-place bits l i c d p)
+  pub left : Left (notes note (anew g₀) (phase-four (entryAt l bits) (take i d) (steps l i c d))) g (from-place bits l i c d p)
 
 pub choosing-start : {bits : List ℕ} {l i : ℕ} {c d : List ℕ} {g : Book} → Chosen bits l i c d g → Choosing bits l i c d (anew g) 0 (anew g)
 choosing-start {bits} {l} {i} {c} {d} {g} C =
@@ -210,7 +207,7 @@ choosing-start {bits} {l} {i} {c} {d} {g} C =
         binary = C .binary;
         few = C .few;
       };
-      left = left-start (anew g) (phase-four (cell l bits) (take i d) (steps l i c d)) f;
+      left = left-start (anew g) (phase-four (entryAt l bits) (take i d) (steps l i c d)) f;
     }
 
 module _ {bits : List ℕ} {l i : ℕ} {c d : List ℕ} {g₀ : Book} {p : ℕ} {g : Book} (P : Choosing bits l i c d g₀ p g) where
@@ -235,23 +232,23 @@ module _ {bits : List ℕ} {l i : ℕ} {c d : List ℕ} {g₀ : Book} {p : ℕ} 
         few = record { at = λ k m. subst (λ (v : ℕ). v < 65536) (sym (part-at d k (omega (arith, m)))) (C .few (i + k) (omega (arith, m, C .from))) };
       }
 
-  pub choosing-next : {h : Book} → p < i → h ≡ notes note g (gather (cell l bits) (getD d p 0) (steps l i c d)) → Choosing bits l i c d g₀ (p + 1) h
+  pub choosing-next : {h : Book} → p < i → h ≡ notes note g (gather (entryAt l bits) (getD d p 0) (steps l i c d)) → Choosing bits l i c d g₀ (p + 1) h
   choosing-next {h} j e = record {
     within = omega arith;
     needs = P .needs;
-    left = left-some (P .left) (gather (cell l bits) (getD d p 0) (steps l i c d))
-        (ap (λ (xs : List ℕ). phase-four (cell l bits) xs (steps l i c d)) (drop-next (take i d) p (omega (arith, length-take-le i d (omega (arith, P .needs .from, P .needs .rows)))))
-        ∙ ap (λ (x : ℕ). gather (cell l bits) x (steps l i c d) ++ from-place bits l i c d (p + 1)) (getD-take i d p 0 j)) e;
+    left = left-some (P .left) (gather (entryAt l bits) (getD d p 0) (steps l i c d))
+        (ap (λ (xs : List ℕ). phase-four (entryAt l bits) xs (steps l i c d)) (drop-next (take i d) p (omega (arith, length-take-le i d (omega (arith, P .needs .from, P .needs .rows)))))
+        ∙ ap (λ (x : ℕ). gather (entryAt l bits) x (steps l i c d) ++ from-place bits l i c d (p + 1)) (getD-take i d p 0 j)) e;
   }
 
   pub choosing-length : length (g .words) ≡ length (g₀ .words)
-  choosing-length = left-length (P .left) ∙ length-notes (phase-four (cell l bits) (take i d) (steps l i c d)) (anew g₀)
+  choosing-length = left-length (P .left) ∙ length-notes (phase-four (entryAt l bits) (take i d) (steps l i c d)) (anew g₀)
 
   choosing-end : i ≤ p → g ≡ fourth bits l i c d g₀
   unfolding fourth
   choosing-end h =
       left-end (P .left)
-      (ap (λ (xs : List ℕ). phase-four (cell l bits) xs (steps l i c d)) (gone (take i d) p (omega (arith, length-take-le i d (omega (arith, P .needs .from, P .needs .rows))))))
+      (ap (λ (xs : List ℕ). phase-four (entryAt l bits) xs (steps l i c d)) (gone (take i d) p (omega (arith, length-take-le i d (omega (arith, P .needs .from, P .needs .rows))))))
 
 -- the counts began anew, in a tally
 pub choosing-done : {bits ws : List ℕ} {l i p : ℕ} {c d : List ℕ} {g : Book} {r : Tally} (t : Tally) → r ≡ afresh t

@@ -4,6 +4,7 @@ ghost use mathlib.Core.List.{[]};
 ghost use Prim.Native.Nat.{_+_, _-_, _*_};
 ghost use lib.ListN.{length};
 ghost use Rattle.loops.specs.Part.{part};
+ghost use Rattle.loops.specs.Entry.{entryAt};
 ghost use Rattle.loops.specs.Room.{notes};
 ghost use Rattle.oplist.specs.Ops.{dest};
 ghost use Rattle.grid.specs.Grid.{Under, Figures};
@@ -12,7 +13,7 @@ ghost use Rattle.rest.specs.Marks.{flagOf, keptBy};
 ghost use Rattle.phases.specs.One.{entry};
 ghost use Rattle.phases.specs.Rest.{gather, weigh};
 ghost use Rattle.rest.specs.Again.{opAt, Reading, Listing, third, fifth};
-ghost use Rattle.rest.specs.Gather.{cell, paired, One, Gathering, Chosen, fourth};
+ghost use Rattle.rest.specs.Gather.{paired, One, Gathering, Chosen, fourth};
 ghost use Rattle.rest.specs.Columns.{Blank, Ordering, placed};
 ghost use Rattle.rest.specs.Vector.{looked, start, valued, Singular, Valuing, Weighing};
 use octet::Octet;
@@ -103,7 +104,7 @@ fn gather_one(
     t: Tally,
 ) -> Tally
     requires { ⌜ One (now bits) l x q y (book (now list) t) ⌝ }
-    ensures { λ r. ⌜ book (now (list .exit)) r ≡ notes note (book (now (list .entry)) t) (entry (cell l (now (bits .entry)) x q) x y []) ⌝ }
+    ensures { λ r. ⌜ book (now (list .exit)) r ≡ notes note (book (now (list .entry)) t) (entry (entryAt l (now (bits .entry)) x q) x y []) ⌝ }
 {
     if grid::has(bits, l, x, q) {
         tally::record(list, t, Op::AddAssign(x, y))
@@ -123,7 +124,7 @@ fn gather_row(
     t: Tally,
 ) -> Tally
     requires { ⌜ Gathering (now bits) l x (now cs) (now ys) (book (now list) t) ⌝ }
-    ensures { λ r. ⌜ book (now (list .exit)) r ≡ notes note (book (now (list .entry)) t) (gather (cell l (now (bits .entry))) x (paired (now (cs .entry)) (now (ys .entry)))) ⌝ }
+    ensures { λ r. ⌜ book (now (list .exit)) r ≡ notes note (book (now (list .entry)) t) (gather (entryAt l (now (bits .entry))) x (paired (now (cs .entry)) (now (ys .entry)))) ⌝ }
 {
     let mut r = t;
     let mut k = 0;

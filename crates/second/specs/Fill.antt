@@ -6,7 +6,7 @@
 --   entries-before, entries-octet, entries-after   row y, by where it stands to the octet rows
 --   Filled, filled-start, filled-next, filled-end   rows filled from the top
 -- Assumes nothing.
-use mathlib.Core.Path.{_≡_, refl, ap, ap₂, _∙_}
+use mathlib.Core.Path.{_≡_, refl, sym, ap, ap₂, _∙_}
 use mathlib.Core.List.{List, [], _∷_, map}
 use Prim.Native.Nat.{ℕ, suc, _+_, _*_, _-_, _≤_, _<_}
 use native.Mathlib.Omega.{arith}
@@ -14,6 +14,7 @@ use borrow.Author.Count.{below-more}
 use borrow.Author.Tests.{lt-ltb, le-ltb, le-leb, lt-leb}
 use lib.ListN.{length, getD, set, take, drop}
 use lib.Seq.{getD-take, getD-drop, getD-set-same, getD-set-other}
+use Rattle.loops.specs.Entry.{entryAt, entry-within}
 use Rattle.phases.specs.System.{range, combined}
 use Rattle.second.specs.Store.{storeOf, Sized, Place, length-storeOf, storeOf-rows}
 
@@ -26,7 +27,7 @@ pub record Filling (m l s h i : ℕ) (w bits octs cols : List ℕ) : Type 0 wher
   pub low : (k : ℕ) → k < length cols → getD cols k 0 < l
 
 abbrev pub picked : ℕ → List ℕ → ℕ → List ℕ → List ℕ
-picked l src j cols = map (λ (q : ℕ). getD src (j * l + q) 0) cols
+picked l src j cols = map (entryAt l src j) cols
 
 abbrev pub entries : ℕ → ℕ → ℕ → ℕ → List ℕ → List ℕ → ℕ → ℕ → ℕ
 entries m l s h bits octs = combined (record { m = m; n = l; s = s; h = h; w = 0 }) bits octs
@@ -41,7 +42,8 @@ pub picked-as : (h l j : ℕ) (src cols : List ℕ) {p e : ℕ} → Place h l j 
 picked-as h l j src cols {p} {e} a b low =
     map-as _ _ cols
     (λ k n. let z : p + getD cols k 0 ≡ j * l + getD cols k 0 = omega arith in
-    getD-take (e - p) (drop p src) (getD cols k 0) 0 (omega (arith, low k n)) ∙ getD-drop p src (getD cols k 0) 0 ∙ ap (λ (x : ℕ). getD src x 0) z)
+    getD-take (e - p) (drop p src) (getD cols k 0) 0 (omega (arith, low k n)) ∙ getD-drop p src (getD cols k 0) 0 ∙ ap (λ (x : ℕ). getD src x 0) z
+    ∙ sym (entry-within l src j (getD cols k 0) (low k n)))
 
 -- whose row it is
 module _ (m l s h : ℕ) (bits octs : List ℕ) (y : ℕ) (cols : List ℕ) where
