@@ -9,6 +9,7 @@ use Prim.Native.Nat.{ℕ, _+_, _-_, _*_, _≤_}
 use native.Mathlib.Omega.{arith}
 use lib.ListN.{length}
 use Rattle.loops.specs.Loop.{for-none}
+use Rattle.loops.specs.Entry.{entryAt}
 use Rattle.rule.specs.Rule.{State}
 use Rattle.phases.specs.System.{Shape}
 use Rattle.phases.specs.Matrix.{length-range}
@@ -17,7 +18,7 @@ use Rattle.phases.specs.Walk.{begin-walked}
 use Rattle.grid.specs.Grid.{bit}
 use Rattle.figures.specs.Told.{told}
 use Rattle.opening.specs.Opened.{Opens, Opened, opened-figure, begins}
-use Rattle.stepping.specs.Stands.{plain, Given, Stands, Standing}
+use Rattle.stepping.specs.Stands.{Given, Stands, Standing}
 
 -- the lengths of the lent slices
 pub record Lent (z : Shape) (octs c d ones deg s labels sizes : ℕ) : Type 0 where
@@ -45,9 +46,9 @@ opens g l = record {
 }
 
 module _ {z : Shape} {bits c d fig deg s labels : List ℕ} {n next : ℕ} (g : Given z bits) (o : Opened z bits c d fig deg s labels n next) where
-  at-begin : Stands z bits (begin (plain (z .n) bits) z) c d fig s labels 0 (z .n - z .w) n next
+  at-begin : Stands z bits (begin (entryAt (z .n) bits) z) c d fig s labels 0 (z .n - z .w) n next
   at-begin = record {
-    walked = begin-walked z (plain (z .n) bits) (g .fit);
+    walked = begin-walked z (entryAt (z .n) bits) (g .fit);
     cols = o .cols;
     rows = o .rows;
     wide = o .wide;
@@ -68,8 +69,8 @@ module _ {z : Shape} {bits c d fig deg s labels : List ℕ} {n next : ℕ} (g : 
   }
 
   pub opened-standing : Standing z bits c d fig s labels 0 (z .n - z .w) n next
-  opened-standing = subst (λ (p : Phase). Stands z bits p c d fig s labels 0 (z .n - z .w) n next) (sym (for-none 0 (λ _. step (plain (z .n) bits) z) (begin (plain (z .n) bits) z))) at-begin
+  opened-standing = subst (λ (p : Phase). Stands z bits p c d fig s labels 0 (z .n - z .w) n next) (sym (for-none 0 (λ _. step (entryAt (z .n) bits) z) (begin (entryAt (z .n) bits) z))) at-begin
 
-  pub opened-degrees : (x : ℕ) → told deg x ≡ degree (plain (z .n) bits) z x
+  pub opened-degrees : (x : ℕ) → told deg x ≡ degree (entryAt (z .n) bits) z x
   unfolding bit
   opened-degrees x = o .degrees x

@@ -16,6 +16,7 @@ use lib.ListN.{length, getD, List·getD-append}
 use lib.Seq.{getD-append-add}
 use Rattle.rule.specs.Sets.{in-at}
 use Rattle.loops.specs.Part.{part, row-within}
+use Rattle.loops.specs.Entry.{entryAt}
 use Rattle.oplist.specs.declared.Op.{Op}
 use Rattle.rule.specs.Lists.{In}
 use Rattle.rule.specs.Rule.{arrange, without, Cut}
@@ -26,8 +27,8 @@ use Rattle.phases.specs.Occ.{occ-append, in-member, member-in}
 use Rattle.phases.specs.Fit.{all-rows, rows-below, cols-below}
 use Rattle.phases.specs.Sweep.{rows-kept}
 use Rattle.grid.specs.Grid.{Under, Rows}
-use Rattle.clearing.specs.Clear.{Binary, binary-at, outside}
-use Rattle.stepping.specs.Stands.{plain, Given, Stands, At, rowAt, at-some, rows-part, rows-long, cols-long}
+use Rattle.clearing.specs.Clear.{Binary, outside}
+use Rattle.stepping.specs.Stands.{Given, Stands, At, rowAt, at-some, rows-part, rows-long, cols-long}
 
 abbrev pub belowAt : Shape → ℕ → List ℕ → List ℕ
 belowAt z i d = part (i + 1) (z .m - z .h - (i + 1)) d
@@ -77,7 +78,7 @@ module _ {z : Shape} {bits : List ℕ} {p : Phase} {c d ones s labels : List ℕ
       (rows-below z (g .fit .rows-fit) (getD (rows-of (p .steps)) i 0)
       (omega (
         arith,
-        rows-kept (plain (z .n) bits) (p .steps) (all-rows z) (range 0 (z .w)) (h .walked .legal) (getD (rows-of (p .steps)) i 0),
+        rows-kept (entryAt (z .n) bits) (p .steps) (all-rows z) (range 0 (z .w)) (h .walked .legal) (getD (rows-of (p .steps)) i 0),
         in-member (getD (rows-of (p .steps)) i 0) (rows-of (p .steps)) (in-at (rows-of (p .steps)) i (omega (arith, i-long, length-rows-of (p .steps)))),
       )))
 
@@ -94,7 +95,6 @@ module _ {z : Shape} {bits : List ℕ} {p : Phase} {c d ones s labels : List ℕ
   }
 
   binary-then : Binary (z .n) bits (getD c i 0) (p .now .elig)
-  unfolding binary-at
   binary-then = record {
     at = λ k l. g .fit .binary (getD (p .now .elig) k 0) (getD c i 0)
         (h .walked .rest-in (getD (p .now .elig) k 0) (in-member (getD (p .now .elig) k 0) (p .now .elig) (in-at (p .now .elig) k l))) pivot-low;
@@ -129,9 +129,9 @@ last-at : (a : List ℕ) (b : ℕ) (rest : List ℕ) (i : ℕ) → i ≡ length 
 last-at a b rest i e = ap (λ (l : List ℕ). getD l i 0) (append-assoc a (b ∷ []) rest) ∙ ap (λ (k : ℕ). getD (a ++ (b ∷ rest)) k 0) (let z : i ≡ length a + 0 = omega arith in z) ∙ getD-append-add a (b ∷ rest) 0 0
 
 module _ {z : Shape} {bits : List ℕ} (octs : List ℕ) (p : Phase) (x : ℕ) {c d ones s labels : List ℕ} (i : ℕ) {u n next : ℕ} (g : Given z bits) (l : i ≡ length (p .steps))
-    (h : Stands z bits (taken (plain (z .n) bits) z p x) c d ones s labels (i + 1) u n next) where
+    (h : Stands z bits (taken (entryAt (z .n) bits) z p x) c d ones s labels (i + 1) u n next) where
   abbrev k : Cut
-  k = arrange (one (plain (z .n) bits)) (p .now .cols) x
+  k = arrange (one (entryAt (z .n) bits)) (p .now .cols) x
 
   abbrev new : Step
   new = record { row = x; pivot = k .pivot; under = without x (p .now .elig) ++ octet-rows z; left = k .rest }
@@ -144,7 +144,7 @@ module _ {z : Shape} {bits : List ℕ} (octs : List ℕ) (p : Phase) (x : ℕ) {
   row-last = ap (λ (v : List ℕ). getD v i 0) (h .rows ∙ ap (λ (a : List ℕ). a ++ (without x (p .now .elig) ++ octet-rows z)) (rows-join (p .steps) (new ∷ [])))
       ∙ last-at (rows-of (p .steps)) x (without x (p .now .elig) ++ octet-rows z) i (l ∙ sym (length-rows-of (p .steps)))
 
-  pub ops-then : ops-one (combined z bits octs) (taken (plain (z .n) bits) z p x .steps) ≡ ops-one (combined z bits octs) (p .steps) ++ stepOps z bits octs i c d
+  pub ops-then : ops-one (combined z bits octs) (taken (entryAt (z .n) bits) z p x .steps) ≡ ops-one (combined z bits octs) (p .steps) ++ stepOps z bits octs i c d
   ops-then = ops-join (combined z bits octs) (p .steps) new
       ∙ ap (λ (os : List Op). ops-one (combined z bits octs) (p .steps) ++ os)
       (ap (λ (q : ℕ). clears (λ y. combined z bits octs y q) x (without x (p .now .elig) ++ octet-rows z)) (sym pivot-last)

@@ -21,6 +21,7 @@ use Prim.Native.Nat.{ℕ, zero, suc, _+_, _-_, _*_, _≤_, _<_}
 use native.Mathlib.Omega.{arith}
 use lib.ListN.{length}
 use Rattle.loops.specs.Loop.{for-next}
+use Rattle.loops.specs.Entry.{entryAt}
 use Rattle.oplist.specs.declared.Op.{Op}
 use Rattle.rule.specs.Permitted.{count}
 use Rattle.phases.specs.System.{Shape, combined, octet-rows}
@@ -29,7 +30,7 @@ use Rattle.phases.specs.Walk.{none-exactly}
 use Rattle.tally.specs.declared.Tally.{Tally}
 use Rattle.tally.specs.Book.{Book, book, Fair}
 use Rattle.clearing.specs.Clear.{Listed, listed-none, listed-then}
-use Rattle.stepping.specs.Stands.{plain, Given, Standing, At, rowAt, cols-long}
+use Rattle.stepping.specs.Stands.{Given, Standing, At, rowAt, cols-long}
 use Rattle.stepping.specs.declared.State.{State}
 use Rattle.stepping.specs.declared.Made.{Made}
 use Rattle.stepping.specs.declared.Made.the-variants.{Stepped, Nothing}
@@ -80,8 +81,8 @@ at-stays : (z : Shape) (bits : List ℕ) (i k : ℕ) → rowAt z bits i ≡ none
 at-stays z bits i zero e = let q : i + 0 ≡ i = omega arith in ap (At z bits) q
 at-stays z bits i (suc k) e =
     let q : i + suc k ≡ i + k + 1 = omega arith in
-    ap (At z bits) q ∙ for-next 0 (i + k) (λ _. step (plain (z .n) bits) z) (begin (plain (z .n) bits) z) (omega arith)
-    ∙ ap (step (plain (z .n) bits) z) (at-stays z bits i k e) ∙ ap (taking (plain (z .n) bits) z (At z bits i)) e
+    ap (At z bits) q ∙ for-next 0 (i + k) (λ _. step (entryAt (z .n) bits) z) (begin (entryAt (z .n) bits) z) (omega arith)
+    ∙ ap (step (entryAt (z .n) bits) z) (at-stays z bits i k e) ∙ ap (taking (entryAt (z .n) bits) z (At z bits i)) e
 
 pub record Ended (z : Shape) (bits octs : List ℕ) (p : Phase) (g₀ : Book) (c d : List ℕ) (g : Book) : Type 0 where
   pub cols : c ≡ pivots-of (p .steps) ++ (p .now .cols ++ p .out)
@@ -90,26 +91,26 @@ pub record Ended (z : Shape) (bits octs : List ℕ) (p : Phase) (g₀ : Book) (c
 
 module _ {z : Shape} {bits octs : List ℕ} {g₀ : Book} {n₀ : ℕ} {c d ones s labels sizes : List ℕ} {i u n next : ℕ} {g : Book} (v : Given z bits)
     (h : Looping z bits octs g₀ n₀ c d ones s labels sizes i u n next g) where
-  last : rowAt z bits i ≡ none → At z bits i ≡ phase-one (plain (z .n) bits) z
+  last : rowAt z bits i ≡ none → At z bits i ≡ phase-one (entryAt (z .n) bits) z
   last e =
       let q : i + (z .n - i) ≡ z .n = omega (arith, cols-long v (h .standing)) in
       sym (ap (At z bits) (sym q) ∙ at-stays z bits i (z .n - i) e)
 
-  pub ended : rowAt z bits i ≡ none → Ended z bits octs (phase-one (plain (z .n) bits) z) g₀ c d g
+  pub ended : rowAt z bits i ≡ none → Ended z bits octs (phase-one (entryAt (z .n) bits) z) g₀ c d g
   ended e = subst (λ (p : Phase). Ended z bits octs p g₀ c d g) (last e) (record { cols = h .standing .cols; rows = h .standing .rows; listed = h .listed })
 
-  steps-are : rowAt z bits i ≡ none → i ≡ length (phase-one (plain (z .n) bits) z .steps)
+  steps-are : rowAt z bits i ≡ none → i ≡ length (phase-one (entryAt (z .n) bits) z .steps)
   steps-are e = subst (λ (p : Phase). i ≡ length (p .steps)) (last e) (h .standing .i-is)
 
-  left-are : rowAt z bits i ≡ none → length (phase-one (plain (z .n) bits) z .now .cols) + i + u ≡ z .n
+  left-are : rowAt z bits i ≡ none → length (phase-one (entryAt (z .n) bits) z .now .cols) + i + u ≡ z .n
   left-are e = subst (λ (p : Phase). length (p .now .cols) + i + u ≡ z .n) (last e) (omega (arith, cols-long v (h .standing)))
 
-  none-left : (l : List ℕ) (x : ℕ) → length l ≡ 0 → count (one (plain (z .n) bits)) l x ≡ 0
+  none-left : (l : List ℕ) (x : ℕ) → length l ≡ 0 → count (one (entryAt (z .n) bits)) l x ≡ 0
   none-left [] x e = refl
   none-left (q ∷ l) x e = absurd (omega arith)
 
   pub spent : z .n ≤ i + u → rowAt z bits i ≡ none
-  spent k = none-exactly z (plain (z .n) bits) (v .fit) (At z bits i) (h .standing .walked) .1
+  spent k = none-exactly z (entryAt (z .n) bits) (v .fit) (At z bits i) (h .standing .walked) .1
       (λ x m. none-left (At z bits i .now .cols) x (omega (arith, cols-long v (h .standing))))
 
 abbrev pub Outcome : Shape → List ℕ → List ℕ → Phase → Book → List ℕ → List ℕ → List ℕ → First → Type 0
@@ -165,13 +166,13 @@ module _ {z : Shape} {bits octs : List ℕ} {g₀ : Book} {n₀ : ℕ} {c d ones
     (h : Looping z bits octs g₀ n₀ c d ones s labels sizes i u n next g) where
   -- a turn that found no row
   pub ended-none : {c′ d′ ones′ s′ labels′ : List ℕ} → (rowAt z bits i ≡ none) × Standing z bits c′ d′ ones′ s′ labels′ i u n next → i + u < z .n
-      → Ended z bits octs (phase-one (plain (z .n) bits) z) g₀ c′ d′ g × (0 < length (phase-one (plain (z .n) bits) z .now .cols))
+      → Ended z bits octs (phase-one (entryAt (z .n) bits) z) g₀ c′ d′ g × (0 < length (phase-one (entryAt (z .n) bits) z .now .cols))
   ended-none {c′} {d′} {ones′} {s′} {labels′} t k =
       let a : Looping z bits octs g₀ n₀ c′ d′ ones′ s′ labels′ sizes i u n next g = record { standing = t .1; listed = h .listed; room = h .room } in
       (ended v a (t .0), omega (arith, left-are v a (t .0)))
 
   pub ended-spent : z .n ≤ i + u
-      → Ended z bits octs (phase-one (plain (z .n) bits) z) g₀ c d g × (i ≡ length (phase-one (plain (z .n) bits) z .steps)) × (length (phase-one (plain (z .n) bits) z .now .cols) ≡ 0)
+      → Ended z bits octs (phase-one (entryAt (z .n) bits) z) g₀ c d g × (i ≡ length (phase-one (entryAt (z .n) bits) z .steps)) × (length (phase-one (entryAt (z .n) bits) z .now .cols) ≡ 0)
   ended-spent k = let e = spent v h k in (ended v h e, steps-are v h e, omega (arith, left-are v h e))
 
   pub sum-fits : i + u < 65536

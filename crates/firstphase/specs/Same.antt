@@ -14,6 +14,7 @@ use native.Mathlib.Omega.{arith}
 use lib.ListN.{length, take, drop}
 use lib.Dec.{eqb, ltb}
 use Rattle.loops.specs.Loop.{for-none, for-next}
+use Rattle.loops.specs.Entry.{entryAt}
 use Rattle.rule.specs.Lists.{In, filter, head, headLeast, leastFrom, leastPos}
 use Rattle.rule.specs.Sets.{in-filter}
 use Rattle.rule.specs.Alike.{filter-alike, least-alike}
@@ -29,7 +30,7 @@ use Rattle.phases.specs.Occ.{in-member, member-in, occ-append, occ-range, once-
 use Rattle.phases.specs.Fit.{cols-once, rows-once, less?}
 use Rattle.phases.specs.Walk.{Walked, walked, permitted}
 use Rattle.clearing.specs.Clear.{outside}
-use Rattle.stepping.specs.Stands.{plain, Given}
+use Rattle.stepping.specs.Stands.{Given}
 use Rattle.tally.specs.Book.{Book}
 use Rattle.firstphase.specs.declared.First.{First}
 use Rattle.firstphase.specs.Ended.{Outcome}
@@ -154,7 +155,7 @@ module _ (z : Shape) (bits octs : List ℕ) (g : Given z bits) where
   A = combined z bits octs
 
   abbrev B : ℕ → ℕ → ℕ
-  B = plain (z .n) bits
+  B = entryAt (z .n) bits
 
   rows-same : (x : ℕ) → In x (first-rows z) → one A x ≡ one B x
   rows-same x m = fun-ext (λ q. ap (λ (k : ℕ). eqb k 1) (combined-binary z bits octs x q (outside z (g .fit .rows-fit) x m)))
@@ -217,6 +218,6 @@ module _ (z : Shape) (bits octs : List ℕ) (g : Given z bits) where
   phase-same = phase-after-same (z .n)
 
 -- so phase one's answer says the same of both
-pub whole : (z : Shape) (bits octs : List ℕ) (g₀ : Book) (c d list : List ℕ) (r : First) → Given z bits → Outcome z bits octs (phase-one (plain (z .n) bits) z) g₀ c d list r
+pub whole : (z : Shape) (bits octs : List ℕ) (g₀ : Book) (c d list : List ℕ) (r : First) → Given z bits → Outcome z bits octs (phase-one (entryAt (z .n) bits) z) g₀ c d list r
     → Outcome z bits octs (phase-one (combined z bits octs) z) g₀ c d list r
 whole z bits octs g₀ c d list r g o = subst (λ (p : Phase). Outcome z bits octs p g₀ c d list r) (sym (phase-same z bits octs g)) o

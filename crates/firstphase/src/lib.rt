@@ -2,13 +2,14 @@
 ghost use mathlib.Core.Path.{_≡_};
 ghost use Prim.Native.Nat.{ℕ, _+_, _*_, _≤_};
 ghost use lib.ListN.{length};
+ghost use Rattle.loops.specs.Entry.{entryAt};
 ghost use Rattle.tally.specs.Book.{book, Fair};
 ghost use Rattle.clearing.specs.Clear.{Listed};
 ghost use Rattle.stepping.specs.Turns.{asShape};
 ghost use Rattle.figures.specs.Told.{told};
 ghost use Rattle.phases.specs.System.{combined};
 ghost use Rattle.phases.specs.One.{degree, phase-one};
-ghost use Rattle.stepping.specs.Stands.{plain, Given, Standing};
+ghost use Rattle.stepping.specs.Stands.{Given, Standing};
 ghost use Rattle.firstphase.specs.Clears.{Clear, stepOps};
 ghost use Rattle.firstphase.specs.Ended.{Outcome};
 ghost use Rattle.firstphase.specs.Begins.{Lent};
@@ -65,9 +66,9 @@ fn steps(
 ) -> First
     requires { ⌜ Given (asShape z) (now bits) ⌝ }
     requires { ⌜ Standing (asShape z) (now bits) (now c) (now d) (now ones) (now s) (now labels) (first .i) (first .u) (first .singles) (first .next) ⌝ }
-    requires { ⌜ (length (now deg) ≡ z .m) × ((x : ℕ) → told (now deg) x ≡ degree (plain (z .l) (now bits)) (asShape z) x) × (z .l + z .l + 1 ≤ length (now sizes)) ⌝ }
+    requires { ⌜ (length (now deg) ≡ z .m) × ((x : ℕ) → told (now deg) x ≡ degree (entryAt (z .l) (now bits)) (asShape z) x) × (z .l + z .l + 1 ≤ length (now sizes)) ⌝ }
     requires { ⌜ (first .i ≡ 0) × (z .h * z .l ≤ length (now octets)) × (Fair (book (now list) t)) ⌝ }
-    ensures { λ r. ⌜ Outcome (asShape z) (now (bits .entry)) (now (octets .entry)) (phase-one (plain (z .l) (now (bits .entry))) (asShape z)) (book (now (list .entry)) t) (now (c .exit)) (now (d .exit)) (now (list .exit)) r ⌝ }
+    ensures { λ r. ⌜ Outcome (asShape z) (now (bits .entry)) (now (octets .entry)) (phase-one (entryAt (z .l) (now (bits .entry))) (asShape z)) (book (now (list .entry)) t) (now (c .exit)) (now (d .exit)) (now (list .exit)) r ⌝ }
 {
     let l = z.l;
     let mut st = first;

@@ -1,5 +1,4 @@
 -- Phase one's state in slices: what each slice holds after some steps of the definition.
---   plain          the binary matrix, as lent
 --   Given          the matrix is one that the definition takes
 --   Stands         the slices hold a phase
 --   stands-one     slices that hold one phase are equal in what is in use, but for the figures of rows that were chosen
@@ -38,6 +37,7 @@ use lib.ListN.{length, getD, take, drop, length-append}
 use lib.Dec.{eqb}
 use Rattle.phases.specs.Matrix.{length-range}
 use Rattle.loops.specs.Part.{part, put, row-within}
+use Rattle.loops.specs.Entry.{entryAt}
 use Rattle.rule.specs.Lists.{In, Nodup, leastPos}
 use Rattle.rule.specs.Sets.{bool-or, in-cast, sub-length, in-at}
 use Rattle.rule.specs.Singles.{Removed, exchanged}
@@ -67,17 +67,14 @@ use Rattle.stepping.specs.Due.{Due, Shrunk, restOf, outOf, belowOf}
 use Rattle.loops.specs.Loop.{for-next}
 use Rattle.stepping.specs.Lengths.{Kept, arranged-lengths}
 
-abbrev pub plain : ℕ → List ℕ → ℕ → ℕ → ℕ
-plain l bits x q = getD bits (x * l + q) 0
-
 pub record Given (z : Shape) (bits : List ℕ) : Type 0 where
-  pub fit : Fit z (plain (z .n) bits)
+  pub fit : Fit z (entryAt (z .n) bits)
   pub size : length bits ≡ z .m * z .n
   pub few : z .m < 65536
   pub narrow : z .n ≤ z .m
 
 pub record Stands (z : Shape) (bits : List ℕ) (p : Phase) (c d ones s labels : List ℕ) (i u n next : ℕ) : Type 0 where
-  pub walked : Walked z (plain (z .n) bits) p
+  pub walked : Walked z (entryAt (z .n) bits) p
   pub cols : c ≡ pivots-of (p .steps) ++ (p .now .cols ++ p .out)
   pub rows : d ≡ rows-of (p .steps) ++ (p .now .elig ++ octet-rows z)
   pub wide : length c ≡ z .n
@@ -116,7 +113,7 @@ first-part s n = let e : n - 0 ≡ n = omega arith in ap (λ (k : ℕ). take k s
 
 module _ {z : Shape} {bits : List ℕ} {p : Phase} {c d ones s labels : List ℕ} {i u n next : ℕ} (g : Given z bits) (h : Stands z bits p c d ones s labels i u n next) where
   abbrev A : ℕ → ℕ → ℕ
-  A = plain (z .n) bits
+  A = entryAt (z .n) bits
 
   pub cols-long : i + length (p .now .cols) + u ≡ z .n
   cols-long =
@@ -220,7 +217,7 @@ module _ {z : Shape} {bits : List ℕ} {p : Phase} {c d ones s labels : List ℕ
       ∙ ap (λ (m : Marks). choose (one A) (degree A z) (p .now .cols) (p .now .elig) (p .now .singles) (m .lab) (m .next)) (h .marks)
 
   -- a step: row x is chosen
-  module _ (x : ℕ) (e : chosen (one (plain (z .n) bits)) (degree (plain (z .n) bits) z) (p .now) ≡ some x) where
+  module _ (x : ℕ) (e : chosen (one (entryAt (z .n) bits)) (degree (entryAt (z .n) bits) z) (p .now) ≡ some x) where
     allowed : Permitted (one A) (degree A z) (p .now .cols) (p .now .elig) x
     allowed = permitted z A (g .fit) p (h .walked) x e
 
@@ -424,13 +421,13 @@ module _ {z : Shape} {bits : List ℕ} {p : Phase} {c d ones s labels : List ℕ
           }
 
 abbrev pub At : (z : Shape) → List ℕ → ℕ → Phase
-At z bits k = phase-after (plain (z .n) bits) z k
+At z bits k = phase-after (entryAt (z .n) bits) z k
 
 abbrev pub rowAt : (z : Shape) → List ℕ → ℕ → Option ℕ
-rowAt z bits k = chosen (one (plain (z .n) bits)) (degree (plain (z .n) bits) z) (At z bits k .now)
+rowAt z bits k = chosen (one (entryAt (z .n) bits)) (degree (entryAt (z .n) bits) z) (At z bits k .now)
 
-pub at-some : (z : Shape) (bits : List ℕ) (k x : ℕ) → rowAt z bits k ≡ some x → At z bits (k + 1) ≡ taken (plain (z .n) bits) z (At z bits k) x
-at-some z bits k x e = for-next 0 k (λ _. step (plain (z .n) bits) z) (begin (plain (z .n) bits) z) (omega arith) ∙ ap (taking (plain (z .n) bits) z (At z bits k)) e
+pub at-some : (z : Shape) (bits : List ℕ) (k x : ℕ) → rowAt z bits k ≡ some x → At z bits (k + 1) ≡ taken (entryAt (z .n) bits) z (At z bits k) x
+at-some z bits k x e = for-next 0 k (λ _. step (entryAt (z .n) bits) z) (begin (entryAt (z .n) bits) z) (omega arith) ∙ ap (taking (entryAt (z .n) bits) z (At z bits k)) e
 
 abbrev pub Standing : Shape → List ℕ → List ℕ → List ℕ → List ℕ → List ℕ → List ℕ → ℕ → ℕ → ℕ → ℕ → Type 0
 Standing z bits c d ones s labels i u n next = Stands z bits (At z bits i) c d ones s labels i u n next

@@ -9,13 +9,14 @@ use mathlib.Core.List.{List}
 use mathlib.Core.Option.{Option, some, none}
 use Prim.Native.Nat.{ℕ, _+_}
 use native.Mathlib.Omega.{arith}
+use Rattle.loops.specs.Entry.{entryAt}
 use Rattle.phases.specs.System.{Shape as Defined}
 use Rattle.phases.specs.One.{Phase, taken}
 use Rattle.stepping.specs.declared.Shape.{Shape}
 use Rattle.stepping.specs.declared.State.{State}
 use Rattle.stepping.specs.declared.Made.{Made}
 use Rattle.stepping.specs.declared.Made.the-variants.{Stepped, Nothing}
-use Rattle.stepping.specs.Stands.{plain, Stands, stands-one, Standing, At, rowAt, at-some}
+use Rattle.stepping.specs.Stands.{Stands, stands-one, Standing, At, rowAt, at-some}
 
 abbrev pub asShape : Shape → Defined
 asShape z = record { m = z .m; n = z .l; s = z .s; h = z .h; w = z .w }
@@ -45,6 +46,6 @@ turned-one z bits st c d ones s labels c′ d′ ones′ s′ labels′ Nothing 
 turned-one z bits st c d ones s labels c′ d′ ones′ s′ labels′ Nothing Nothing p q = let h = stands-one (p .1) (q .1) in (refl, h .0, h .1, h .6)
 
 pub stepped-on : (z : Defined) (bits : List ℕ) {c d ones s labels : List ℕ} (i : ℕ) {u n next : ℕ} (x : ℕ) → rowAt z bits i ≡ some x
-    → Stands z bits (taken (plain (z .n) bits) z (At z bits i) x) c d ones s labels (i + 1) u n next → Standing z bits c d ones s labels (i + 1) u n next
+    → Stands z bits (taken (entryAt (z .n) bits) z (At z bits i) x) c d ones s labels (i + 1) u n next → Standing z bits c d ones s labels (i + 1) u n next
 stepped-on z bits {c} {d} {ones} {s} {labels} i {u} {n} {next} x e h =
     subst (λ (p : Phase). Stands z bits p c d ones s labels (i + 1) u n next) (sym (at-some z bits i x e)) h

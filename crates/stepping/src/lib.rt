@@ -4,6 +4,7 @@ ghost use mathlib.Core.List.{_∷_};
 ghost use Prim.Native.Nat.{ℕ, _+_, _-_, _*_, _≤_, _<_};
 ghost use lib.ListN.{length};
 ghost use Rattle.loops.specs.Part.{part, put};
+ghost use Rattle.loops.specs.Entry.{entryAt};
 ghost use Rattle.rule.specs.Lists.{In};
 ghost use Rattle.rule.specs.Permitted.{count};
 ghost use Rattle.rule.specs.Rule.{without, arrange};
@@ -13,7 +14,7 @@ ghost use mathlib.Core.Option.{some};
 ghost use Rattle.figures.specs.Told.{told};
 ghost use Rattle.phases.specs.One.{degree};
 ghost use Rattle.stepping.specs.Due.{Due, Shrunk};
-ghost use Rattle.stepping.specs.Stands.{plain, Given, Standing, rowAt};
+ghost use Rattle.stepping.specs.Stands.{Given, Standing, rowAt};
 ghost use Rattle.stepping.specs.Turns.{asShape, Turned};
 use choice::Choice;
 
@@ -145,7 +146,7 @@ pub fn turn(
 ) -> Made
     requires { ⌜ Given (asShape z) (now bits) ⌝ }
     requires { ⌜ Standing (asShape z) (now bits) (now c) (now d) (now ones) (now s) (now labels) (st .i) (st .u) (st .singles) (st .next) ⌝ }
-    requires { ⌜ (length (now deg) ≡ z .m) × ((x : ℕ) → told (now deg) x ≡ degree (plain (z .l) (now bits)) (asShape z) x) × (z .l + z .l + 1 ≤ length (now sizes)) ⌝ }
+    requires { ⌜ (length (now deg) ≡ z .m) × ((x : ℕ) → told (now deg) x ≡ degree (entryAt (z .l) (now bits)) (asShape z) x) × (z .l + z .l + 1 ≤ length (now sizes)) ⌝ }
     ensures { λ r. ⌜ Turned (asShape z) (now (bits .entry)) st (now (c .exit)) (now (d .exit)) (now (ones .exit)) (now (s .exit)) (now (labels .exit)) r ⌝ }
 {
     let l = z.l;
