@@ -1,4 +1,5 @@
 pub mod Over
 pub mod Call
 pub mod Called
+pub mod Ignored
 pub mod Tests
