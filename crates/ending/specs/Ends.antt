@@ -21,6 +21,7 @@ use borrow.Author.Tests.{lt-ltb, le-ltb}
 use lib.Dec.{ltb}
 use lib.ListN.{length, getD, take, drop, length-append, List·getD-append}
 use lib.Seq.{take-at, drop-at, take-length}
+use Rattle.loops.specs.Entry.{entryAt}
 use Rattle.loops.specs.Room.{notes}
 use Rattle.loops.specs.Way.{go}
 use Rattle.oplist.specs.declared.Op.{Op}
@@ -48,7 +49,7 @@ use Rattle.tally.specs.Book.{Book, book, note, anew}
 use Rattle.rest.specs.Marks.{flagOf}
 use Rattle.rest.specs.Again.{third, fifth, Listing, listing-is, words-kept}
 use Rattle.rest.specs.Again as Again
-use Rattle.rest.specs.Gather.{cell, Chosen, fourth}
+use Rattle.rest.specs.Gather.{Chosen, fourth}
 use Rattle.rest.specs.Gather as Gather
 use Rattle.rest.specs.Columns.{Ordering, Blank, placed, placed-is, by-column-take}
 use Rattle.answers.specs.declared.Counts.{Counts}
@@ -247,8 +248,8 @@ module _ (z : Shape) (bits octets : List ℕ) (P : Posed z bits octets) (hb : By
         under = record { at = λ k h. K .below k h };
         inside = λ k h. subst (λ (x : ℕ). x * z .l + z .l ≤ length bits) (sym (chosen-at k h))
             (omega (arith, P .bits-size, mul-le-mul-right (z .l) (chosen-below k h)));
-        binary = λ k q h l. subst (λ (x : ℕ). cell (z .l) bits x q ≤ 1) (sym (chosen-at k h))
-            (entered-at (z .l) (z .s) (z .h) bits (P .entries) (getD (rows-of T) k 0) q (chosen-binary k h) l);
+        binary = λ k q h l. subst (λ (x : ℕ). entryAt (z .l) bits x q ≤ 1) (sym (chosen-at k h))
+            (entered-at (z .l) (z .s) (z .h) bits (P .entries) (getD (rows-of T) k 0) q (chosen-binary k h));
         few = λ k h. omega (arith, R .order .rows .below k (omega (arith, P .narrow)), P .few);
       }
 

@@ -10,12 +10,11 @@ use mathlib.Core.Logic.{_⊎_, inl, inr}
 use mathlib.Core.Bool.{Bool, true, false, cond}
 use mathlib.Core.List.{List, [], _∷_, map}
 use Prim.Native.Nat.{ℕ, zero, suc, _+_, _-_, _*_, _<_, _≤_}
-use native.Mathlib.Nat.{mul-le-mul-right}
 use native.Mathlib.Omega.{arith}
 use borrow.Author.Tests.{leb-true}
 use lib.Dec.{leb, ltb}
 use lib.ListN.{length, getD, take, drop}
-use lib.Seq.{getD-take, getD-drop}
+use Rattle.loops.specs.Entry.{entryAt, entry-any, entry-take, entry-drop}
 use Rattle.bounds.specs.Bounds.{mostRows}
 use Rattle.oplist.specs.declared.Op.{Op}
 use Rattle.oplist.specs.declared.Op.the-variants.{AddAssign, MulAssign, FMA}
@@ -42,21 +41,21 @@ bitwise-at [] e i = omega arith
 bitwise-at (x ∷ xs) e zero = leb-true x 1 (and-left (leb x 1) (bitwise xs) e)
 bitwise-at (x ∷ xs) e (suc i) = bitwise-at xs (and-right (leb x 1) (bitwise xs) e) i
 
-pub entered-at : (l s h : ℕ) (bits : List ℕ) → entered l s h bits ≡ true → (x q : ℕ) → (x < s) ⊎ (s + h ≤ x) → q < l → getD bits (x * l + q) 0 ≤ 1
+pub entered-at : (l s h : ℕ) (bits : List ℕ) → entered l s h bits ≡ true → (x q : ℕ) → (x < s) ⊎ (s + h ≤ x) → entryAt l bits x q ≤ 1
 unfolding entered
-entered-at l s h bits e x q (inl a) k =
-    subst (λ (y : ℕ). y ≤ 1) (getD-take (s * l) bits (x * l + q) 0 (omega (arith, mul-le-mul-right l a)))
-    (bitwise-at (take (s * l) bits) (and-left (bitwise (take (s * l) bits)) (bitwise (drop ((s + h) * l) bits)) e) (x * l + q))
-entered-at l s h bits e x q (inr a) k =
-    let j : ℕ = x * l + q - (s + h) * l in
-    let z : (s + h) * l + j ≡ x * l + q = omega (arith, mul-le-mul-right l a) in
-    subst (λ (y : ℕ). y ≤ 1) (getD-drop ((s + h) * l) bits j 0 ∙ ap (λ (i : ℕ). getD bits i 0) z)
-    (bitwise-at (drop ((s + h) * l) bits) (and-right (bitwise (take (s * l) bits)) (bitwise (drop ((s + h) * l) bits)) e) j)
+entered-at l s h bits e x q (inl a) =
+    subst (λ (y : ℕ). y ≤ 1) (entry-take l bits x q s a)
+    (entry-any l (take (s * l) bits) x q (λ y. y ≤ 1) (omega arith)
+    (bitwise-at (take (s * l) bits) (and-left (bitwise (take (s * l) bits)) (bitwise (drop ((s + h) * l) bits)) e)))
+entered-at l s h bits e x q (inr a) =
+    subst (λ (y : ℕ). y ≤ 1) (entry-drop l bits x q (s + h) a)
+    (entry-any l (drop ((s + h) * l) bits) (x - (s + h)) q (λ y. y ≤ 1) (omega arith)
+    (bitwise-at (drop ((s + h) * l) bits) (and-right (bitwise (take (s * l) bits)) (bitwise (drop ((s + h) * l) bits)) e)))
 
 module _ (z : Shape) (bits octets : List ℕ) (p : Posed z bits octets) (hb : Bytes bits) (ho : Bytes octets) where
   pub posed-fit : Fit (asShape z) (combined (asShape z) bits octets)
   posed-fit =
-      combined-fit (asShape z) bits octets hb ho (λ x q a b c. entered-at (z .l) (z .s) (z .h) bits (p .entries) x q b c) (p .rows-fit) (p .cols-fit)
+      combined-fit (asShape z) bits octets hb ho (λ x q a b. entered-at (z .l) (z .s) (z .h) bits (p .entries) x q b) (p .rows-fit) (p .cols-fit)
 
 fine-op : (m : ℕ) (o : Op) → Good o × Within m o → Fine m o
 fine-op m (AddAssign d s) h = record { within = h .1; apart = h .0 }
