@@ -28,6 +28,7 @@ use borrow.Author.Tests.{le-leb, le-ltb, lt-ltb, eq-eqb}
 use lib.Dec.{eqb, ltb}
 use lib.ListN.{length, drop, set, replicate}
 use lib.Seq.{sets-eq}
+use Rattle.loops.specs.Entry.{entryAt}
 use Rattle.loops.specs.Loop.{forTo, up}
 use Rattle.loops.specs.Way.{forWay}
 use Rattle.loops.specs.Room.{log, puts, puts-fit}
@@ -154,40 +155,40 @@ abbrev run-of : List ℕ → List ℕ → Run
 run-of bits octs = defined ten (combined ten bits octs) false
 
 run-plain : run-of Q Q-octets ≡ record { one = []; two = []; three = []; four = []; five = []; end = solved usual }
-unfolding add times product rest mul squares inverse forTo up forWay
+unfolding entryAt add times product rest mul squares inverse forTo up forWay
 run-plain = refl
 
 run-scaling : run-of Q (with 0 17 2 Q-octets) ≡ record { one = []; two = MulAssign 7 142 ∷ []; three = []; four = []; five = []; end = solved usual }
-unfolding add times product rest mul squares inverse forTo up forWay
+unfolding entryAt add times product rest mul squares inverse forTo up forWay
 run-scaling = refl
 
 run-addition : run-of (with 0 17 1 Q) Q-octets ≡ record { one = []; two = []; three = []; four = AddAssign 0 7 ∷ []; five = []; end = solved usual }
-unfolding add times product rest mul squares inverse forTo up forWay
+unfolding entryAt add times product rest mul squares inverse forTo up forWay
 run-addition = refl
 
 run-fma : run-of Q (with 0 0 3 Q-octets) ≡ record { one = FMA 7 0 3 ∷ []; two = []; three = []; four = []; five = []; end = solved usual }
-unfolding add times product rest mul squares inverse forTo up forWay
+unfolding entryAt add times product rest mul squares inverse forTo up forWay
 run-fma = refl
 
 run-singular : run-of Q (with 0 17 0 Q-octets) ≡ record { one = []; two = []; three = []; four = []; five = []; end = singular (unit 1 17) }
-unfolding add times product rest mul squares inverse forTo up forWay
+unfolding entryAt add times product rest mul squares inverse forTo up forWay
 run-singular = refl
 
 run-refused : run-of (flat (range 0 7) ++ zeros ++ flat (range 17 10)) (flat (range 7 10))
     ≡ record { one = []; two = []; three = []; four = []; five = []; end = no-pivot }
-unfolding add times product rest mul squares inverse forTo up forWay
+unfolding entryAt add times product rest mul squares inverse forTo up forWay
 run-refused = refl
 
 run-block : run-of block block-octets ≡ record { one = []; two = []; three = []; four = []; five = []; end = no-pivot }
-unfolding add times product rest mul squares inverse forTo up forWay
+unfolding entryAt add times product rest mul squares inverse forTo up forWay
 run-block = refl
 
 block-takes : length (phase-one (combined ten block block-octets) ten .steps) ≡ 16
-unfolding forTo up
+unfolding entryAt forTo up
 block-takes = refl
 
 block-goes-on : solve 1000 true block block-octets ≡ Solved [] (7 ∷ range 0 7 ++ range 17 10 ++ range 8 9) no-counts no-counts
-unfolding add times product rest mul squares inverse forTo up forWay adds muls
+unfolding entryAt add times product rest mul squares inverse forTo up forWay adds muls
 block-goes-on = refl
 
 no-symbols : (m t : ℕ) (bits : List ℕ) (o : Octets) (b : Buffers) → callOf 0 m t bits o b ≡ outcome BadCount b

@@ -15,9 +15,11 @@ use native.Mathlib.Omega.{arith}
 use borrow.Author.Tests.{lt-ltb, le-ltb}
 use lib.Dec.{ltb}
 use lib.ListN.{length, length-append}
+use Rattle.loops.specs.Entry.{entry-any}
 use Rattle.loops.specs.Out.{Out}
 use Rattle.loops.specs.Way.{Way, go, halt}
 use Rattle.oplist.specs.declared.Op.{Op}
+use Rattle.octet.specs.Field.{Octet}
 use Rattle.algebra.specs.Flat.{Bytes}
 use Rattle.phases.specs.System.{Shape as Defined, first-rows, octet-rows}
 use Rattle.phases.specs.One.{Phase}
@@ -106,8 +108,8 @@ module _ (z : Shape) (bits octets : List ℕ) where
     pub given-is : Given (asShape z) bits
     given-is = record {
       fit = record {
-        entries = λ x q. hb (x * z .l + q);
-        binary = λ x q i l. entered-at (z .l) (z .s) (z .h) bits (P .entries) x q (outside x i) l;
+        entries = λ x q. entry-any (z .l) bits x q Octet (omega arith) hb;
+        binary = λ x q i l. entered-at (z .l) (z .s) (z .h) bits (P .entries) x q (outside x i);
         rows-fit = P .rows-fit;
         cols-fit = P .cols-fit;
       };
