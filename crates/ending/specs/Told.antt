@@ -5,7 +5,7 @@
 --   told-words, told-says   the list's words are those of a list of m rows, and say the list
 --   opsIn-told, opsIn-answer   an answer reports as many operations as the list has: the told one, and that of any run
 -- Assumes nothing.
-use mathlib.Core.Path.{_≡_, refl, sym, ap, _∙_, subst}
+use mathlib.Core.Path.{_≡_, refl, sym, subst}
 use mathlib.Core.Logic.{_⊎_, inl, inr}
 use mathlib.Core.Bool.{Bool, true, false, cond}
 use mathlib.Core.List.{List, [], _∷_, map}

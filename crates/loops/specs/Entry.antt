@@ -5,7 +5,7 @@
 --   entry-any         what holds of 0 and of each entry of the list holds of it
 --   entry-take, entry-drop   the rows before row s alone have it where x is before s; the rows from row s on have it, in row x - s, where x is not
 -- Assumes nothing.
-use mathlib.Core.Path.{_≡_, refl, sym, ap, _∙_}
+use mathlib.Core.Path.{_≡_, refl, ap, _∙_}
 use mathlib.Core.Bool.{Bool, true, false, cond}
 use mathlib.Core.List.{List}
 use Prim.Native.Nat.{ℕ, _+_, _-_, _*_, _≤_, _<_}

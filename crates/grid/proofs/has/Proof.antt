@@ -1,6 +1,5 @@
 use Rattle.loops.specs.Entry.{entry-within}
 use Rattle.grid.specs.Grid.{bit}
-use native.Mathlib.Omega.{arith}
 use borrow.Author.Needs.{needs}
 use Rattle.grid.proofs.has.Statement.{statement}
 use Rattle.grid.proofs.has.Tie as tie
