@@ -5,21 +5,23 @@
 --   Ready n held l room       the room is fit to be filled, and holds the multiples of the n bytes of l from held on, if they are in l
 --   two-parts                 parts of two rows
 --   span-part, scale-span, fma-span   a part of a slab that was changed as a row by itself
+--   copy-span, copy-blank     a part that gained a multiple of another, by a copy of it in the room's second block; the room stays blank
 --   held-part                 the multiples of a part of a slab
 --   ready-none, ready-after   no multiples are held; those of another part stay what they are
 -- Assumes nothing.
 use mathlib.Core.Path.{_≡_, sym, ap, ap₂, _∙_, subst}
 use mathlib.Core.Logic.{_⊎_, inl, inr, ⊎-elim}
 use mathlib.Core.List.{List, _++_}
-use Prim.Native.Nat.{ℕ, _+_, _-_, _*_, _≤_, _<_}
+use Prim.Native.Nat.{ℕ, zero, suc, _+_, _-_, _*_, _≤_, _<_}
 use native.Mathlib.Omega.{arith}
 use lib.ListN.{length, getD, take, drop}
+use lib.Seq.{length-take-le, take-at, drop-at}
 use Rattle.loops.specs.Part.{part, put, length-part, getD-part, length-put, getD-put, getD-put-before, getD-put-after}
 use Rattle.octet.specs.Octet.{add, mul}
-use Rattle.octets.specs.Rows.{scaleRow}
-use Rattle.octets.specs.Laws.{length-scaleRow, getD-scaleRow}
+use Rattle.octets.specs.Rows.{scaleRow, fmaRow}
+use Rattle.octets.specs.Laws.{length-scaleRow, getD-scaleRow, length-fmaRow, getD-fmaRow}
 use Rattle.octets.specs.Spans.{Span}
-use Rattle.octets.specs.Multiples.{Blank, Multiples, entry, multiples-same, digitsAt, digits}
+use Rattle.octets.specs.Multiples.{Blank, Multiples, entry, place, multiples-same, digitsAt, digits}
 use Rattle.oplist.specs.declared.Op.{Op}
 use Rattle.oplist.specs.declared.Op.the-variants.{AddAssign, MulAssign, FMA}
 
@@ -54,9 +56,12 @@ two-parts a n r h =
       apart = ⊎-elim (λ q. inl (omega arith)) (λ q. inr (omega arith)) (r .apart);
     }
 
--- the part from d on, in the shape in which the checker gives it
+-- the part from d on, and a slab that got r in its place, in the shapes in which the checker gives them
 abbrev cut : ℕ → ℕ → List ℕ → List ℕ
 cut d n l = take (d + n - d) (drop d l)
+
+abbrev back : ℕ → ℕ → List ℕ → List ℕ → List ℕ
+back d n l r = take d l ++ (r ++ drop (d + n - d) (drop d l))
 
 cut-part : (d n : ℕ) (l : List ℕ) → cut d n l ≡ part d n l
 unfolding part
@@ -81,24 +86,55 @@ module _ (l r : List ℕ) (d n : ℕ) (h : d + n ≤ length l) where
         high = getD-put-after l d n r h y;
       }
 
-  put-back : put d n l r ≡ take d l ++ (r ++ drop (d + n - d) (drop d l))
+  put-back : put d n l r ≡ back d n l r
   unfolding put
   put-back = let e : d + n - d ≡ n = omega arith in rw e
 
-  pub scale-span : (k : ℕ) → r ≡ scaleRow k (cut d n l) → Span (scaleAt l k) l d (d + n) (take d l ++ (r ++ drop (d + n - d) (drop d l)))
+  pub scale-span : (k : ℕ) → r ≡ scaleRow k (cut d n l) → Span (scaleAt l k) l d (d + n) (back d n l r)
   scale-span k e =
       subst (Span (scaleAt l k) l d (d + n)) put-back
       (span-part (ap length e ∙ length-scaleRow k (cut d n l) ∙ length-cut d n l h)
       (λ i q. ap (λ (x : List ℕ). getD x i 0) e ∙ getD-scaleRow k (cut d n l) i ∙ ap (mul k) (getD-cut d n l i q)))
 
   pub fma-span : {room : List ℕ} (src k : ℕ) → k < 256 → Multiples n (entry l src) room → Span (digitsAt (cut d n l) room k) (cut d n l) 0 (length (cut d n l)) r
-      → Span (fmaAt l d src k) l d (d + n) (take d l ++ (r ++ drop (d + n - d) (drop d l)))
+      → Span (fmaAt l d src k) l d (d + n) (back d n l r)
   fma-span {room} src k b m s =
       let z = length-cut d n l h in
       subst (Span (fmaAt l d src k) l d (d + n)) put-back
       (span-part (s .long ∙ z)
       (λ i q. s .made i (omega arith) (omega arith) ∙ digits m k i b q (cut d n l)
       ∙ ap₂ (λ (x y : ℕ). add x (mul k (getD l y 0))) (getD-cut d n l i q) (omega arith)))
+
+  cut-back : length r ≡ n → cut d n (back d n l r) ≡ r
+  cut-back e =
+      let k : ℕ = d + n - d in
+      ap (take k) (drop-at (take d l) (r ++ drop k (drop d l)) d (length-take-le d l (omega arith))) ∙ take-at r (drop k (drop d l)) k (omega arith)
+
+-- p is what the room got in its second block: a copy of the part from src on
+module _ (l : List ℕ) {room p : List ℕ} {d n src : ℕ} (t : TwoRows d src n (length l)) (h : n ≤ 1280) (b : Blank room) (f : p ≡ cut src n l) where
+  room-in : 1280 + n ≤ length room
+  room-in = omega (arith, b .long)
+
+  length-copy : length p ≡ n
+  length-copy = ap length f ∙ length-cut src n l (t .src-in)
+
+  pub copy-span : {r : List ℕ} (k : ℕ) → r ≡ fmaRow (cut d n l) (cut 1280 n (back 1280 n room p)) k → Span (fmaAt l d src k) l d (d + n) (back d n l r)
+  copy-span {r} k e =
+      let z = length-cut d n l (t .dest-in) in
+      let q = e ∙ ap (λ (x : List ℕ). fmaRow (cut d n l) x k) (cut-back room p 1280 n room-in length-copy ∙ f) in
+      subst (Span (fmaAt l d src k) l d (d + n)) (put-back l r d n (t .dest-in))
+      (span-part l r d n (t .dest-in) (ap length q ∙ length-fmaRow (cut d n l) (cut src n l) k ∙ z)
+      (λ i y. ap (λ (x : List ℕ). getD x i 0) q ∙ getD-fmaRow (cut d n l) (cut src n l) k i (omega arith)
+      ∙ ap₂ (λ (x y : ℕ). add x (mul k y)) (getD-cut d n l i y) (getD-cut src n l i y ∙ ap (λ (x : ℕ). getD l x 0) (omega arith))))
+
+  pub copy-blank : Blank (back 1280 n room p)
+  copy-blank =
+      subst Blank (put-back room p 1280 n room-in)
+      (record { long = length-put room 1280 n p room-in length-copy ∙ b .long; zeros = λ j i hj hi. at j i hi ∙ b .zeros j i hj hi })
+    where
+      at : (j i : ℕ) → i < 1280 → getD (put 1280 n room p) (place j 0 i) 0 ≡ getD room (place j 0 i) 0
+      at zero i hi = getD-put-before room 1280 n p room-in length-copy (place 0 0 i) (omega arith)
+      at (suc j) i hi = getD-put-after room 1280 n p room-in length-copy (place (suc j) 0 i) (omega arith)
 
 pub held-part : (l room : List ℕ) (d n : ℕ) → d + n ≤ length l → Multiples (length (cut d n l)) (entry (cut d n l) 0) room → Multiples n (entry l d) room
 held-part l room d n h m =

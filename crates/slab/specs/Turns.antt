@@ -1,6 +1,7 @@
 -- Loops over the words of a list, which apply or undo one operation a turn.
 --   PlacedWord, AllPlaced   `Placed` of a word, if it is an operation's, and of every operation of a list
 --   wordOps                 the operation of a word, as a list
+--   source                  the row of which a word's operation adds a multiple; 65,536, which is no row, if it adds none
 --   placed-at               each word of a list that is placed is placed
 --   placed-inverse          what undoes a word's operation is placed where that is
 --   inverse-value, inverse-zero   one over an octet is its inverse; zero, which has none, stands for itself
@@ -42,6 +43,12 @@ AllPlaced w os n = Each (λ (o : Op). Placed w o n) os
 
 abbrev pub wordOps : Word → List Op
 wordOps v = withOp v []
+
+unfoldable pub source : Word → ℕ
+source (Known (AddAssign d s)) = 65536
+source (Known (MulAssign d c)) = 65536
+source (Known (FMA d s c)) = s
+source Unknown = 65536
 
 pub placed-at : (w : ℕ) (ws : List ℕ) (n : ℕ) → AllPlaced w (opsOf ws) n → (i : ℕ) → i < length ws → PlacedWord w (meaning (getD ws i 0)) n
 unfolding opsOf

@@ -1,7 +1,8 @@
 // A list of operations applied to a flat slab, and undone, on a part of each row at a time.
 ghost use mathlib.Core.Path.{_≡_};
-ghost use lib.ListN.{length};
-ghost use Prim.Native.Nat.{_+_, _≤_, _<_};
+ghost use mathlib.Core.Bool.{true};
+ghost use lib.ListN.{length, getD};
+ghost use Prim.Native.Nat.{_+_, _-_, _≤_, _<_};
 ghost use Rattle.octet.specs.Octet.{inverse as inv};
 ghost use Rattle.octets.specs.Multiples.{Blank};
 ghost use Rattle.oplist.specs.Word.{meaning};
@@ -10,11 +11,41 @@ ghost use Rattle.algebra.specs.Rows.{inverse, undo};
 ghost use Rattle.algebra.specs.Flat.{acts};
 ghost use Rattle.slab.specs.Placed.{Ready};
 ghost use Rattle.slab.specs.Columns.{Cols};
-ghost use Rattle.slab.specs.Turns.{PlacedWord, AllPlaced, wordOps, Applied};
+ghost use Rattle.slab.specs.Turns.{PlacedWord, AllPlaced, wordOps, source, Applied};
 use octet::Octet;
 use octet::Quotient;
 use oplist::Op;
 use oplist::Word;
+
+// A number that no word has for a row.
+const NO_ROW: usize = 65536;
+
+// The row of which a word's operation adds a multiple; no row, if it adds none.
+fn source_of(w: u64) -> usize
+    ensures { λ r. ⌜ r ≡ source (meaning w) ⌝ }
+{
+    match oplist::unpack(w) {
+        Word::Known(op) => match op {
+            Op::AddAssign(_, _) => NO_ROW,
+            Op::MulAssign(_, _) => NO_ROW,
+            Op::FMA(_, s, _) => s,
+        },
+        Word::Unknown => NO_ROW,
+    }
+}
+
+// Whether the operation at place i of a list and the one before it add multiples of one row, or neither of any. Only the time that they take depends on it.
+fn again(list: &[u64], i: usize) -> bool
+    ensures { λ r. ⌜ (r ≡ true → source (meaning (getD (now (list .entry)) (i - 1) 0)) ≡ source (meaning (getD (now (list .entry)) i 0))) ⌝ }
+{
+    if i < 1 {
+        return false;
+    }
+    if list.len() <= i {
+        return false;
+    }
+    source_of(list[i - 1]) == source_of(list[i])
+}
 
 // The slab after the operation of one word on the n bytes from at on of each row, and what the room then holds (row::apply).
 fn apply_word(
@@ -24,13 +55,14 @@ fn apply_word(
     at: usize,
     n: usize,
     held: usize,
+    again: bool,
     w: u64,
 ) -> usize
     requires { ⌜ PlacedWord t (meaning w) (length (now slab)) × (0 < n) × (n ≤ 1280) × (at + n ≤ t) × Ready n held (now slab) (now room) ⌝ }
     ensures { λ r. ⌜ Applied t at n (wordOps (meaning w)) (now (slab .entry)) (now (slab .exit)) (now (room .exit)) r ⌝ }
 {
     match oplist::unpack(w) {
-        Word::Known(op) => crate::row::apply(slab, room, t, at, n, held, op),
+        Word::Known(op) => crate::row::apply(slab, room, t, at, n, held, again, op),
         Word::Unknown => held,
     }
 }
@@ -50,7 +82,7 @@ fn apply_columns(
     let mut held = slab.len();
     let mut i = 0;
     while i < list.len() {
-        held = apply_word(slab, room, t, at, n, held, list[i]);
+        held = apply_word(slab, room, t, at, n, held, again(list, i + 1), list[i]);
         i += 1;
     }
 }
@@ -98,13 +130,14 @@ fn undo_word(
     at: usize,
     n: usize,
     held: usize,
+    again: bool,
     w: u64,
 ) -> usize
     requires { ⌜ PlacedWord t (meaning w) (length (now slab)) × (0 < n) × (n ≤ 1280) × (at + n ≤ t) × Ready n held (now slab) (now room) ⌝ }
     ensures { λ r. ⌜ Applied t at n (undo (wordOps (meaning w))) (now (slab .entry)) (now (slab .exit)) (now (room .exit)) r ⌝ }
 {
     match oplist::unpack(w) {
-        Word::Known(op) => crate::row::apply(slab, room, t, at, n, held, inverted(op)),
+        Word::Known(op) => crate::row::apply(slab, room, t, at, n, held, again, inverted(op)),
         Word::Unknown => held,
     }
 }
@@ -125,7 +158,8 @@ fn undo_columns(
     let m = list.len();
     let mut done = 0;
     while done < m {
-        held = undo_word(slab, room, t, at, n, held, list[m - 1 - done]);
+        let i = m - 1 - done;
+        held = undo_word(slab, room, t, at, n, held, again(list, i), list[i]);
         done += 1;
     }
 }

@@ -10,6 +10,7 @@ use Rattle.slab.proofs.list.apply_columns.Statement.{statement}
 use Rattle.slab.proofs.list.apply_columns.Tie as tie
 use Rattle.slab.proofs.list.apply_columns.Reads as reads
 use Rattle.slab.proofs.list.apply_columns.Lts as lts
+use Rattle.slab.proofs.list.again.Reads as again-reads
 use Rattle.slab.proofs.list.apply_word.Reads as apply-word-reads
 
 abbrev Inv-loop : tie.InvT-loop
@@ -23,6 +24,12 @@ loop-holds c =
     let s = c .before .before in
     (up-start _ _ _ _ _, ready-none (s .pre .1) refl (s .pre .4))
 
+add-again : tie.Need-add-again Inv-loop μ-loop
+add-again c = search needs
+
+again-requires : tie.Need-again-requires Inv-loop μ-loop
+again-requires c κs = search needs
+
 mul-apply-word : tie.Need-mul-apply-word Inv-loop μ-loop
 mul-apply-word c = search needs
 
@@ -31,8 +38,8 @@ shared-slice-read-apply-word c = search needs
 
 apply-word-requires : tie.Need-apply-word-requires Inv-loop μ-loop
 apply-word-requires c κs =
-    let s = c .before .before .before .before .before .before .before in
-    let now = c .before .before .before .before .loop in (
+    let s = c .before .before .before .before .before .before .before .before in
+    let now = c .before .before .before .before .before .loop in (
       rw (now .inv .0 .is .long) (placed-at (s .args .t) (s .args .list .now) (length (s .args .slab .now)) (s .pre .0) (now .i) (search needs)),
       s .pre .1,
       s .pre .2,
@@ -48,7 +55,7 @@ loop-less c = search needs
 
 loop-again : tie.Need-loop-again Inv-loop μ-loop
 loop-again c =
-    let now = c .before .before .before .before .before .before .before .loop in
+    let now = c .before .before .before .before .before .before .before .before .loop in
     let call = c .before .before .apply-word in
     (up-next _ _ _ _ _ (now .inv .0) (search needs) (call .ensures .cols), call .ensures .ready)
 
@@ -65,6 +72,8 @@ apply-columns-spec =
     Inv-loop
     μ-loop
     loop-holds
+    add-again
+    again-requires
     mul-apply-word
     shared-slice-read-apply-word
     apply-word-requires

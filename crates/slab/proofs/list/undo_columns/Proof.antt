@@ -10,6 +10,7 @@ use Rattle.slab.proofs.list.undo_columns.Statement.{statement}
 use Rattle.slab.proofs.list.undo_columns.Tie as tie
 use Rattle.slab.proofs.list.undo_columns.Reads as reads
 use Rattle.slab.proofs.list.undo_columns.Lts as lts
+use Rattle.slab.proofs.list.again.Reads as again-reads
 use Rattle.slab.proofs.list.undo_word.Reads as undo-word-reads
 
 abbrev Inv-loop : tie.InvT-loop
@@ -23,11 +24,14 @@ loop-holds c =
     let s = c .before .before in
     (down-start _ _ _ _ _, ready-none (s .pre .1) refl (s .pre .4))
 
-sub-undo-word : tie.Need-sub-undo-word Inv-loop μ-loop
-sub-undo-word c = search needs
+sub-i : tie.Need-sub-i Inv-loop μ-loop
+sub-i c = search needs
 
-sub-undo-word-2 : tie.Need-sub-undo-word-2 Inv-loop μ-loop
-sub-undo-word-2 c = search needs
+sub-i-2 : tie.Need-sub-i-2 Inv-loop μ-loop
+sub-i-2 c = search needs
+
+again-requires : tie.Need-again-requires Inv-loop μ-loop
+again-requires c κs = search needs
 
 mul-undo-word : tie.Need-mul-undo-word Inv-loop μ-loop
 mul-undo-word c = search needs
@@ -37,8 +41,8 @@ shared-slice-read-undo-word c = search needs
 
 undo-word-requires : tie.Need-undo-word-requires Inv-loop μ-loop
 undo-word-requires c κs =
-    let s = c .before .before .before .before .before .before .before in
-    let now = c .before .before .before .before .loop in (
+    let s = c .before .before .before .before .before .before .before .before in
+    let now = c .before .before .before .before .before .loop in (
       rw (now .inv .0 .is .long) (placed-at (s .args .t) (s .args .list .now) (length (s .args .slab .now)) (s .pre .0) (length (s .args .list .now) - 1 - now .done) (search needs)),
       s .pre .1,
       s .pre .2,
@@ -54,7 +58,7 @@ loop-less c = search needs
 
 loop-again : tie.Need-loop-again Inv-loop μ-loop
 loop-again c =
-    let now = c .before .before .before .before .before .before .before .loop in
+    let now = c .before .before .before .before .before .before .before .before .loop in
     let call = c .before .before .undo-word in
     (down-next _ _ _ _ _ (now .inv .0) (search needs) (call .ensures .cols), call .ensures .ready)
 
@@ -71,8 +75,9 @@ undo-columns-spec =
     Inv-loop
     μ-loop
     loop-holds
-    sub-undo-word
-    sub-undo-word-2
+    sub-i
+    sub-i-2
+    again-requires
     mul-undo-word
     shared-slice-read-undo-word
     undo-word-requires

@@ -71,18 +71,6 @@ scale-part-requires c κs =
 enum-known-op-3 : tie.Need-enum-known-op-3
 enum-known-op-3 c = search needs
 
-mul-src : tie.Need-mul-src
-mul-src c =
-    let s = c .before .before .before .before in
-    let h = subst (λ (o : Op). Placed (s .args .t) o (length (s .args .slab .now))) (c .before .op3 .given .1) (s .pre .0) in
-    omega arith
-
-add-src : tie.Need-add-src
-add-src c =
-    let s = c .before .before .before .before in
-    let h = subst (λ (o : Op). Placed (s .args .t) o (length (s .args .slab .now))) (c .before .op3 .given .1) (s .pre .0) in
-    omega arith
-
 mul-fma-part : tie.Need-mul-fma-part
 mul-fma-part c =
     let s = c .before .before .before .before .before .before in
@@ -95,11 +83,23 @@ add-fma-part c =
     let h = subst (λ (o : Op). Placed (s .args .t) o (length (s .args .slab .now))) (c .before .before .before .op3 .given .1) (s .pre .0) in
     omega arith
 
+mul-fma-part-2 : tie.Need-mul-fma-part-2
+mul-fma-part-2 c =
+    let s = c .before .before .before .before .before .before in
+    let h = subst (λ (o : Op). Placed (s .args .t) o (length (s .args .slab .now))) (c .before .before .before .op3 .given .1) (s .pre .0) in
+    omega arith
+
+add-fma-part-2 : tie.Need-add-fma-part-2
+add-fma-part-2 c =
+    let s = c .before .before .before .before .before .before in
+    let h = subst (λ (o : Op). Placed (s .args .t) o (length (s .args .slab .now))) (c .before .before .before .op3 .given .1) (s .pre .0) in
+    omega arith
+
 fma-part-requires : tie.Need-fma-part-requires
 fma-part-requires c κs =
     let s = c .before .before .before .before .before .before in
     let h = subst (λ (o : Op). Placed (s .args .t) o (length (s .args .slab .now))) (c .before .before .before .op3 .given .1) (s .pre .0) in
-    (two-parts (s .args .at) (s .args .n) h (s .pre .3), s .pre .2, s .pre .4)
+    (two-parts (s .args .at) (s .args .n) h (s .pre .3), s .pre .1, s .pre .2, s .pre .4)
 
 same-length : tie.Need-same-length
 same-length c = search needs
@@ -143,10 +143,10 @@ apply-spec =
     add-scale-part
     scale-part-requires
     enum-known-op-3
-    mul-src
-    add-src
     mul-fma-part
     add-fma-part
+    mul-fma-part-2
+    add-fma-part-2
     fma-part-requires
     same-length
     returns
