@@ -1,1 +1,2 @@
 // Definitions and laws only: they are in specs/.
+#![tactic(auto)]

@@ -1,18 +1,20 @@
 // What a call answers, the number of each answer, what the receiver shows for it, and the rooms that a call needs.
+#![tactic(auto)]
+
 ghost use Rattle.std.specs.Prelude.{◌≡◌, ◌≤◌};
 ghost use Rattle.bounds.specs.Bounds.{most_rows};
 ghost use Rattle.answers.specs.Answers.{number_of, shown_of};
 ghost use Rattle.answers.specs.Rooms.{rooms_of, Needed};
 
 // The additions and multiplications of a phase.
-#[derive(Drop)]
+#[derive(Clone, Copy)]
 pub struct Counts {
     pub adds: usize,
     pub muls: usize,
 }
 
 // How many operations the list has, and the counts of each phase.
-#[derive(Drop)]
+#[derive(Clone, Copy)]
 pub struct Report {
     pub operations: usize,
     pub one: Counts,
@@ -23,7 +25,7 @@ pub struct Report {
 }
 
 // What a call answers.
-#[derive(Drop)]
+#[derive(Clone, Copy)]
 pub enum Answer {
     Solved(Report),
     BadCount,
@@ -36,7 +38,7 @@ pub enum Answer {
 }
 
 // What the receiver shows for an answer.
-#[derive(Drop)]
+#[derive(Clone, Copy)]
 pub enum Display {
     Solved,
     BadCount,
@@ -48,7 +50,7 @@ pub enum Display {
 }
 
 // How many entries order, vector and each working slice have to hold, and how many bytes the working slices take in all.
-#[derive(Drop)]
+#[derive(Clone, Copy)]
 pub struct Rooms {
     pub order: usize,
     pub vector: usize,
@@ -65,7 +67,7 @@ pub struct Rooms {
 }
 
 // What `needs` answers: the needs, or that m and l are out of bounds.
-#[derive(Drop)]
+#[derive(Clone, Copy)]
 pub enum Need {
     Entries(Rooms),
     BadShape,

@@ -1,4 +1,5 @@
 // The bounds of a system and of its list, each named once.
+#![tactic(auto)]
 
 // The most rows of a system, and so its most columns.
 pub const MOST_ROWS: usize = 256;

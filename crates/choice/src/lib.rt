@@ -1,4 +1,6 @@
 // Phase one's choice of a row, with every tie, over lent lists of rows and columns and the figures that are kept of them.
+#![tactic(auto)]
+
 ghost use Rattle.std.specs.Prelude.{◌≡◌, true, ◌&&◌, ◌≤◌, ◌<◌, length, drop, eqb};
 ghost use Rattle.rule.specs.Lists.{head, least_pos};
 ghost use Rattle.rule.specs.Permitted.{count};
@@ -10,7 +12,7 @@ ghost use Rattle.choice.specs.Sizes.{Labelled, Found};
 ghost use Rattle.choice.specs.Choose.{row_of, Ready, Decided};
 
 // The chosen row, or that there is none.
-#[derive(Drop)]
+#[derive(Clone, Copy)]
 pub enum Choice {
     Row(usize),
     Nothing,

@@ -1,4 +1,6 @@
 // A step of phase one, recorded: the chosen row is added to the rows below it with a nonzero in its column, binary rows first, then octet rows.
+#![tactic(auto)]
+
 ghost use Rattle.std.specs.Prelude.{◌+◌, ◌-◌, ◌*◌, ◌≤◌, ◌<◌, length};
 ghost use Rattle.loops.specs.Entry.{entry_at};
 ghost use Rattle.phases.specs.System.{range};

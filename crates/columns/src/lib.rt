@@ -1,4 +1,6 @@
 // Lists of rows and of columns by place: a chosen row and a chosen column come to the front.
+#![tactic(auto)]
+
 ghost use Rattle.std.specs.Prelude.{◌≡◌, ◌∷◌, ◌+◌, ◌*◌, ◌≤◌, ◌<◌, length};
 ghost use Rattle.rule.specs.Lists.{In};
 ghost use Rattle.rule.specs.Permitted.{count};

@@ -15,6 +15,8 @@
 //   twos N      so many calls had a 2 at the edge of the binary matrix or of the octet rows' place in it, and answered 3, with no buffer changed;
 //               in the place of given octet rows it is ignored, and all is as after the first call
 // A call that was otherwise is not counted, and has a line before that of its case: `wrong`, what was tried, and the answer.
+#![tactic(auto)]
+
 mod calls;
 mod faults;
 mod lengths;

@@ -2,7 +2,7 @@
 use solver::{Answer, Rooms};
 
 // The numbers of a call, and how many entries of each slice are lent to it.
-#[derive(Drop)]
+#[derive(Clone, Copy)]
 pub struct Lent {
     pub k: usize,
     pub m: usize,
@@ -18,14 +18,14 @@ pub struct Lent {
 }
 
 // Whether the working slices are as before a call, and whether they are all zeros.
-#[derive(Drop)]
+#[derive(Clone, Copy)]
 pub struct Held {
     pub untouched: bool,
     pub cleared: bool,
 }
 
 // An answer, and what became of the working slices.
-#[derive(Drop)]
+#[derive(Clone, Copy)]
 pub struct Outcome {
     pub answer: Answer,
     pub untouched: bool,
@@ -33,7 +33,7 @@ pub struct Outcome {
 }
 
 // An answer, and what is true of all buffers after it: none changed; the slab did not and the others are zeros; they are as after the first call.
-#[derive(Drop)]
+#[derive(Clone, Copy)]
 pub struct Seen {
     pub answer: Answer,
     pub unchanged: bool,
@@ -42,14 +42,14 @@ pub struct Seen {
 }
 
 // The length of a case's list, and how many calls of the search for it were right.
-#[derive(Drop)]
+#[derive(Clone, Copy)]
 pub struct Halved {
     pub length: usize,
     pub right: usize,
 }
 
 // What is said of a case.
-#[derive(Drop)]
+#[derive(Clone, Copy)]
 pub struct Compared {
     pub answer: usize,
     pub length: usize,

@@ -1,4 +1,6 @@
 // What follows phase one: phase two; phases three to five and the order; or the vector.
+#![tactic(auto)]
+
 ghost use Rattle.std.specs.Prelude.{◌≡◌, length};
 ghost use Rattle.call.specs.Call.{told};
 ghost use Rattle.ending.specs.Ran.{as_shape, Posed, Ran, Placed, Going};

@@ -1,4 +1,6 @@
 // What is kept of each row: its ones in V (`ones`), and its degree (`deg`). Only these functions read or write an entry of the two.
+#![tactic(auto)]
+
 ghost use Rattle.std.specs.Prelude.{◌≡◌, ◌*◌, ◌-◌, ◌≤◌, ◌<◌, length, eqb};
 ghost use Rattle.std.proofs.Math.Option.{some};
 ghost use Rattle.rule.specs.Lists.{filter, head_least, least_pos, lesser as lesserOf};

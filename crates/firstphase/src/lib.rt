@@ -1,4 +1,6 @@
 // Phase one: the loop of steps, with its list.
+#![tactic(auto)]
+
 ghost use Rattle.std.specs.Prelude.{◌≡◌, ℕ, ◌+◌, ◌*◌, ◌≤◌, length};
 ghost use Rattle.loops.specs.Entry.{entry_at};
 ghost use Rattle.tally.specs.Book.{book, Fair};
@@ -16,7 +18,7 @@ use stepping::{Made, Shape, State};
 use tally::Tally;
 
 // How phase one ends: after so many steps V is empty, or no eligible row has a one in it.
-#[derive(Drop)]
+#[derive(Clone, Copy)]
 pub enum First {
     Done(usize, Tally),
     NoPivot(Tally),

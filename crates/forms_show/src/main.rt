@@ -1,4 +1,6 @@
 // Reads lines of a name and the bytes of a form in hexadecimal, and writes after each line what is shown of the form, quoted by `> `.
+#![tactic(auto)]
+
 ghost use Rattle.std.specs.Prelude.{◌≤◌, ◌<◌, length};
 
 use libc::{STDIN_FILENO, STDOUT_FILENO};

@@ -1,4 +1,6 @@
 // The lent binary matrix: an entry, and a row's ones; and zeros in a lent slice.
+#![tactic(auto)]
+
 ghost use Rattle.std.specs.Prelude.{◌≡◌, ◌+◌, ◌*◌, ◌≤◌, ◌<◌, length};
 ghost use Rattle.rule.specs.Permitted.{count as ones};
 ghost use Rattle.grid.specs.Grid.{bit, Under, Figures};

@@ -1,4 +1,6 @@
 // One label a column, changed in place as pairs of columns are joined: what `relabel`, `next_label` and `add_pairs` of the crate `rule` say.
+#![tactic(auto)]
+
 ghost use Rattle.std.specs.Prelude.{◌≡◌, ℕ, ◌+◌, ◌*◌, ◌^◌, ◌<◌, ◌≤◌, length, eqb, true, false, cond, ◌||◌};
 ghost use Rattle.rule.specs.Lists.{filter};
 ghost use Rattle.rule.specs.Permitted.{ones as ones_in, count};

@@ -1,5 +1,7 @@
 // Prints what the leaves of the solver answer: every product and quotient of octets, the row operations, the parameters. What the
 // published Rust answers stands in `stdout`; docs/notes says how it was made.
+#![tactic(auto)]
+
 ghost use Rattle.std.specs.Prelude.{◌≡◌, ◌≤◌, length};
 
 use octet::{Octet, Quotient};

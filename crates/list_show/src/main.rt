@@ -1,4 +1,6 @@
 // Reads a stored list from standard input and writes it as text, or the number of its refusal.
+#![tactic(auto)]
+
 use libc::{STDIN_FILENO, STDOUT_FILENO};
 
 fn put_first(text: &[u8], n: usize) {

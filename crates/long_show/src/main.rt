@@ -1,4 +1,6 @@
 // Shows forms of the most bytes that are taken and past them: how long the text is, and each of its lines after how often it stands in a row.
+#![tactic(auto)]
+
 ghost use Rattle.std.specs.Prelude.{◌≤◌, ◌<◌, length};
 
 use libc::STDOUT_FILENO;

@@ -1,4 +1,6 @@
 // Octets: the elements of GF(256), with the arithmetic of RFC 6330, 5.7.
+#![tactic(auto)]
+
 ghost use Rattle.std.specs.Prelude.{◌≡◌, ◌<◌};
 ghost use Rattle.octet.specs.Octet.{add, mul, power};
 ghost use Rattle.octet.specs.Answers.{Divided};
@@ -66,13 +68,13 @@ fn log(a: u8) -> u8
 }
 
 // An octet: its binary digits are the coefficients of a polynomial over GF(2).
-#[derive(Drop)]
+#[derive(Clone, Copy)]
 pub struct Octet {
     pub value: u8,
 }
 
 // A quotient, or that the divisor is zero.
-#[derive(Drop)]
+#[derive(Clone, Copy)]
 pub enum Quotient {
     Value(Octet),
     ZeroDivisor,

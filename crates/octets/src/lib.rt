@@ -1,4 +1,6 @@
 // Rows of octets: add, scale, and add a multiple.
+#![tactic(auto)]
+
 ghost use Rattle.std.specs.Prelude.{◌≡◌, length, ◌+◌, ◌-◌, ◌/◌, ◌%◌, ◌≤◌, ◌<◌};
 ghost use Rattle.octet.specs.Octet.{times, mul};
 ghost use Rattle.octets.specs.Rows.{Added, Scaled, Fused};

@@ -1,4 +1,6 @@
 // Phase one before its first step: the order of columns and rows, the row figures, the rows with a single one, and the labels of columns.
+#![tactic(auto)]
+
 ghost use Rattle.std.specs.Prelude.{◌≡◌, ℕ, ◌+◌, ◌≤◌, ◌<◌, length};
 ghost use Rattle.rule.specs.Lists.{filter};
 ghost use Rattle.rule.specs.Rule.{add_pairs};
@@ -11,7 +13,7 @@ ghost use Rattle.opening.specs.Marks.{is_two, Outside, Seen, Numbered, Given, Fi
 ghost use Rattle.opening.specs.Opened.{shape, Lent, Figured, Opens, Opened};
 
 // How many rows have a single one, and the next label.
-#[derive(Drop)]
+#[derive(Clone, Copy)]
 pub struct Begun {
     pub singles: usize,
     pub next: usize,

@@ -1,4 +1,6 @@
 // Row operations: what they are, and how a list of them is kept in a lent room.
+#![tactic(auto)]
+
 ghost use Rattle.std.specs.Prelude.{◌≡◌, ◌<◌, drop};
 ghost use Rattle.loops.specs.Room.{log, put};
 ghost use Rattle.oplist.specs.Word.{word, Small, packed, meaning};
@@ -8,7 +10,7 @@ ghost use Rattle.oplist.specs.Count.{adds_in, muls_in, adds, muls, word_adds, wo
 ghost use Rattle.oplist.specs.Check.{shape_fine, two_rows, op_fine, word_fine, list_fine, has, rows_fine, order_fine, word_undoable, undoable};
 
 // One operation on the rows of a slab, rows by their number.
-#[derive(Drop)]
+#[derive(Clone, Copy)]
 pub enum Op {
     // dest, src: dest gets dest + src.
     AddAssign(usize, usize),
@@ -19,7 +21,7 @@ pub enum Op {
 }
 
 // What a word of a list room says.
-#[derive(Drop)]
+#[derive(Clone, Copy)]
 pub enum Word {
     Known(Op),
     // No operation has this word.

@@ -1,4 +1,6 @@
 // The parameters of a source block, from Table 2 of RFC 6330, 5.6.
+#![tactic(auto)]
+
 ghost use Rattle.std.specs.Prelude.{◌≡◌};
 ghost use Rattle.params.specs.Params.{Answered};
 ghost use Rattle.params.specs.Packed.{scan, packed_answer, Packed};
@@ -495,7 +497,7 @@ const H_UNIT: u64 = 100_000;
 
 // The sizes of a source block: K', the systematic index J, S LDPC and H HDPC symbols, W LT symbols,
 // L intermediate symbols and P of them permanently inactive (RFC 6330, 5.3.3.3).
-#[derive(Drop)]
+#[derive(Clone, Copy)]
 pub struct Sizes {
     pub k: usize,
     pub j: usize,
@@ -507,7 +509,7 @@ pub struct Sizes {
 }
 
 // The sizes of a source block, or that there are none within the bound.
-#[derive(Drop)]
+#[derive(Clone, Copy)]
 pub enum Parameters {
     Found(Sizes),
     BadCount,

@@ -1,4 +1,6 @@
 // What the programs share: text on standard output, and the call over rooms for any system within the bounds.
+#![tactic(auto)]
+
 mod calling;
 mod writing;
 

@@ -1,4 +1,6 @@
 // Recovers a block: solves the first case of the input and writes its intermediate symbols, or why there are none.
+#![tactic(auto)]
+
 ghost use Rattle.std.specs.Prelude.{◌≤◌};
 
 use libc::STDIN_FILENO;

@@ -3,13 +3,15 @@
 // The input is decimal numbers, all else between them: for each case the rows, the symbols, the bytes of a symbol and 1 for an order or 0 for
 // none; the number of operations and each as kind, dest, src, scalar; the number of order entries and these; the number of the slab's bytes and
 // these; the same after the replay. It ends with its last case.
+#![tactic(auto)]
+
 mod text;
 
 use libc::{STDIN_FILENO, STDOUT_FILENO};
 use slab::Answer;
 
 // What a case starts with.
-#[derive(Drop)]
+#[derive(Clone, Copy)]
 struct Head {
     m: usize,
     l: usize,

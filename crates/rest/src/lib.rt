@@ -1,4 +1,6 @@
 // Phases three to five over lent rooms (RFC 6330, 5.4.2.4 to 5.4.2.6), the order, and the vector of a Singular answer.
+#![tactic(auto)]
+
 ghost use Rattle.std.specs.Prelude.{◌≡◌, [], ◌+◌, ◌-◌, ◌*◌, length};
 ghost use Rattle.loops.specs.Part.{part};
 ghost use Rattle.loops.specs.Entry.{entry_at};

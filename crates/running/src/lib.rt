@@ -1,4 +1,6 @@
 // The defined run over lent rooms: its answer, list, order and vector, and the working slices cleared after it.
+#![tactic(auto)]
+
 ghost use Rattle.std.specs.Prelude.{◌≡◌, length};
 ghost use Rattle.call.specs.Call.{working, told};
 ghost use Rattle.ending.specs.Ran.{as_shape, Posed, Ran};

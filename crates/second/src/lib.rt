@@ -1,4 +1,6 @@
 // Phase two over lent rooms: the working matrix, Gaussian elimination of the rows that were not chosen, and what it records.
+#![tactic(auto)]
+
 ghost use Rattle.std.specs.Prelude.{◌≡◌, [], ◌∷◌, map, ℕ, ◌-◌, ◌*◌, ◌^◌, ◌≤◌, ◌<◌, length, get_or, set, take, drop};
 ghost use Rattle.octets.specs.Rows.{add_row, scale_row, fma_row};
 ghost use Rattle.oplist.specs.Ops.{Within, Each};
@@ -21,7 +23,7 @@ use oplist::{Op, Word};
 use tally::Tally;
 
 // How the columns end: each has a row, or the column at a place has none.
-#[derive(Drop)]
+#[derive(Clone, Copy)]
 pub enum Elimination {
     Done(Tally),
     Singular(usize, Tally),

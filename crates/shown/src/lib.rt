@@ -1,5 +1,7 @@
 // A stored list as text, put into a lent room. Every function that puts text takes how much the room holds, and gives how much it holds then:
 // one above the room once a byte found no place.
+#![tactic(auto)]
+
 ghost use Rattle.std.specs.Prelude.{◌≡◌, ◌+◌, ◌%◌, ◌<◌, ◌++◌, length};
 ghost use Rattle.loops.specs.Room.{log, put, puts};
 ghost use Rattle.oplist.specs.Word.{meaning};

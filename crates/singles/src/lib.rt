@@ -1,4 +1,6 @@
 // The list of singles in a lent slice, of which the first n are in use.
+#![tactic(auto)]
+
 ghost use Rattle.std.specs.Prelude.{◌≡◌, [], ◌∷◌, ◌++◌, ℕ, ◌+◌, ◌<◌, ◌≤◌, length, get_or, take, eqb};
 ghost use Rattle.rule.specs.Lists.{filter};
 ghost use Rattle.rule.specs.Rule.{swap_remove, lose as losing, lose_first};

@@ -1,5 +1,7 @@
 // A flat slab of symbols, row r being the t bytes from r * t on: a list of operations applied to it, and undone.
 // A list is words of `oplist`. Where `ordered` is true, symbol q of the l symbols is in row order[q] after the list; else in row q.
+#![tactic(auto)]
+
 ghost use Rattle.std.specs.Prelude.{◌≡◌, length};
 ghost use Rattle.slab.specs.Replay.{slab_shaped, checked, Replayed, Undone};
 
@@ -7,7 +9,7 @@ mod list;
 mod row;
 
 // What replay and undo answer.
-#[derive(Drop)]
+#[derive(Clone, Copy)]
 pub enum Answer {
     // Done: symbol q is read in row order[q].
     ByOrder,
@@ -22,7 +24,7 @@ pub enum Answer {
 }
 
 // What the checks on a call say.
-#[derive(Drop)]
+#[derive(Clone, Copy)]
 enum Check {
     Pass,
     ShapeFails,

@@ -1,4 +1,6 @@
 // The solver: a system in; its operation list, its order and the solved slab out.
+#![tactic(auto)]
+
 ghost use Rattle.std.specs.Prelude.{◌≡◌};
 ghost use Rattle.call.specs.Call.{rows_of, working, buffers, outcome};
 ghost use Rattle.call.specs.Called.{Called};
@@ -10,7 +12,7 @@ use call::Shape;
 use params::Parameters;
 
 // The lengths of what is lent to a call, but for the binary matrix.
-#[derive(Drop)]
+#[derive(Clone, Copy)]
 struct Lengths {
     octets: usize,
     slab: usize,
@@ -29,7 +31,7 @@ struct Lengths {
 }
 
 // A call is refused, or taken with a shape and so many bytes of octet rows.
-#[derive(Drop)]
+#[derive(Clone, Copy)]
 enum Verdict {
     Refused(Answer),
     Taken(Shape, usize),

@@ -1,4 +1,6 @@
 // One step of phase one over lent slices.
+#![tactic(auto)]
+
 ghost use Rattle.std.specs.Prelude.{◌≡◌, ◌∷◌, ℕ, ◌+◌, ◌-◌, ◌*◌, ◌≤◌, ◌<◌, length};
 ghost use Rattle.loops.specs.Part.{part, put};
 ghost use Rattle.loops.specs.Entry.{entry_at};
@@ -17,7 +19,7 @@ ghost use Rattle.stepping.specs.Turns.{as_shape, Turned};
 use choice::Choice;
 
 // m rows of l columns, of which h from row s on are octet rows, and w columns that phase one starts from.
-#[derive(Drop)]
+#[derive(Clone, Copy)]
 pub struct Shape {
     pub m: usize,
     pub l: usize,
@@ -27,7 +29,7 @@ pub struct Shape {
 }
 
 // Steps done, inactive columns, singles in use, the next label.
-#[derive(Drop)]
+#[derive(Clone, Copy)]
 pub struct State {
     pub i: usize,
     pub u: usize,
@@ -36,14 +38,14 @@ pub struct State {
 }
 
 // A step was made, or no row can be chosen.
-#[derive(Drop)]
+#[derive(Clone, Copy)]
 pub enum Made {
     Stepped(State),
     Nothing,
 }
 
 // The singles in use, and the next label.
-#[derive(Drop)]
+#[derive(Clone, Copy)]
 pub struct Ties {
     pub singles: usize,
     pub next: usize,

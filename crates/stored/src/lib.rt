@@ -1,4 +1,6 @@
 // The stored form of a list of operations: read into lent rooms, and written into one.
+#![tactic(auto)]
+
 ghost use Rattle.std.specs.Prelude.{◌≡◌, [], ◌+◌, ◌*◌, ◌%◌, ◌≤◌, ◌<◌, length, drop, get_or};
 ghost use Rattle.oplist.specs.Check.{list_fine, has, rows_fine, order_fine};
 ghost use Rattle.stored.specs.Bytes.{number2, number4, padded};
@@ -7,7 +9,7 @@ ghost use Rattle.stored.specs.Laid.{head_of, word_bytes, tail_bytes, laid};
 ghost use Rattle.stored.specs.Answers.{judged_by, judged, judged_list, Read, Wrote};
 
 // What reading a form answers.
-#[derive(Drop)]
+#[derive(Clone, Copy)]
 pub enum Reading {
     // The list and the order stand in their rooms.
     Kept {
@@ -27,7 +29,7 @@ pub enum Reading {
 }
 
 // What writing a list answers.
-#[derive(Drop)]
+#[derive(Clone, Copy)]
 pub enum Written {
     // So many bytes were written.
     Done(usize),

@@ -1,5 +1,7 @@
 // Reads and writes stored lists so that every answer is given once, and prints each answer's number with the rooms afterwards. The rooms hold
 // sevens before.
+#![tactic(auto)]
+
 use libc::STDOUT_FILENO;
 use oplist::Op;
 use stored::{Reading, Written};

@@ -1,6 +1,8 @@
 // Systems as text. A case is the lines `case NAME`, `sys K HDPC M T`, a line `b HEX` for each row of the binary matrix, a line `o HEX` for each
 // octet row where HDPC is 1, `s HEX` for the slab, and `go`. Numbers are decimal; HEX is two digits a byte; the first column is the top bit of
 // a row's first byte.
+#![tactic(auto)]
+
 ghost use Rattle.std.specs.Prelude.{◌≡◌, drop};
 ghost use Rattle.systems.specs.Text.{lines_in, line_number_of};
 ghost use Rattle.systems.specs.Lined.{buffers};

@@ -1,7 +1,7 @@
 // What a text says of its cases.
 
 // What a case says, how many entries of each buffer it has filled, and whether the line of its slab is still to come.
-#[derive(Drop)]
+#[derive(Clone, Copy)]
 pub struct System {
     pub k: usize,
     pub octet: bool,
@@ -15,7 +15,7 @@ pub struct System {
 }
 
 // Where the line of a case's name begins and ends, and where the text goes on.
-#[derive(Drop)]
+#[derive(Clone, Copy)]
 pub struct Place {
     pub from: usize,
     pub end: usize,
@@ -23,7 +23,7 @@ pub struct Place {
 }
 
 // The first case from a place on; or its name and, as `next`, where the line begins that has no place in it; or no case.
-#[derive(Drop)]
+#[derive(Clone, Copy)]
 pub enum Read {
     Case(System, Place),
     Malformed(Place),
@@ -31,14 +31,14 @@ pub enum Read {
 }
 
 // How the lines after a case's name go on: up to `go`, or to where a line begins that has no place there.
-#[derive(Drop)]
+#[derive(Clone, Copy)]
 pub enum Lines {
     Done(System, usize),
     Malformed(usize),
 }
 
 // What a line does to a case.
-#[derive(Drop)]
+#[derive(Clone, Copy)]
 pub enum Turn {
     On(System),
     Go,
@@ -46,7 +46,7 @@ pub enum Turn {
 }
 
 // A number, and where the line goes on.
-#[derive(Drop)]
+#[derive(Clone, Copy)]
 pub enum Number {
     Found(usize, usize),
     Malformed,

@@ -1,4 +1,6 @@
 // The step that records an operation, with the running counts of a phase.
+#![tactic(auto)]
+
 ghost use Rattle.std.specs.Prelude.{◌≡◌};
 ghost use Rattle.oplist.specs.Word.{Small};
 ghost use Rattle.tally.specs.Book.{book, Fair, Noted, afresh};
@@ -6,7 +8,7 @@ ghost use Rattle.tally.specs.Book.{book, Fair, Noted, afresh};
 use oplist::Op;
 
 // How many operations a list room holds, or one above the room; and the additions and multiplications of the phase.
-#[derive(Drop)]
+#[derive(Clone, Copy)]
 pub struct Tally {
     pub used: usize,
     pub adds: usize,

@@ -1,4 +1,6 @@
 // A call that passed its tests: its run, and the list applied to the slab.
+#![tactic(auto)]
+
 ghost use Rattle.std.specs.Prelude.{◌≡◌, length};
 ghost use Rattle.call.specs.Call.{working, buffers, outcome, ended, told};
 ghost use Rattle.ending.specs.Ran.{as_shape, Posed, ops_in};

@@ -1,5 +1,7 @@
 // Solves each system of the input and writes its answer. The input is taken in parts of whole lines; a case that goes on behind a part is kept
 // for the next. A case that does not fit what can be held is refused, and a line that does not is skipped; reading goes on behind it.
+#![tactic(auto)]
+
 ghost use Rattle.std.specs.Prelude.{◌≤◌, ◌<◌, length};
 
 use libc::STDIN_FILENO;
@@ -177,7 +179,7 @@ fn solve_case(s: System, bits: &[u8], octets: &[u8], slab: &mut [u8]) {
 }
 
 // Where the text goes on; whether from there on more of the input has to be there first.
-#[derive(Drop)]
+#[derive(Clone, Copy)]
 struct Next {
     place: usize,
     waits: bool,
@@ -281,7 +283,7 @@ fn move_front(buffer: &mut [u8], from: usize) {
 
 // What is held of the input: how many bytes, how many lines were before them, whether they begin within a line that is skipped, and whether
 // there is no more.
-#[derive(Drop)]
+#[derive(Clone, Copy)]
 struct Part {
     held: usize,
     lines: usize,

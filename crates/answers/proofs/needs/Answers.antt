@@ -1,0 +1,26 @@
+-- `rules` meets its contract. Assumes nothing.
+use mathlib.Core.Path.{ap}
+use native.Mathlib.Omega.{arith}
+use borrow.Author.Rules.{rules}
+use borrow.Author.Tests.{le-leb, lt-leb}
+use Rattle.answers.specs.declared.Need.TheVariants.{Entries}
+use Rattle.answers.specs.Rooms.{need_of, need_met}
+use Rattle.answers.proofs.needs.Goals as goal
+
+pub returns-then-l-lt1 : goal.returns-then-l-lt1
+unfolding need_of
+returns-then-l-lt1 c = need_met (rw (lt-leb _ _ c.if-l-lt1.true))
+
+pub returns-then-m-l : goal.returns-then-m-l
+unfolding need_of
+returns-then-m-l c = need_met (rw (le-leb _ _ c.if-l-lt1.false, lt-leb _ _ c.if-m-l.true))
+
+pub returns-then-m-gt-MOST_ROWS : goal.returns-then-m-gt-MOST_ROWS
+unfolding need_of
+returns-then-m-gt-MOST_ROWS c = need_met (rw (le-leb _ _ c.if-l-lt1.false, le-leb _ _ c.if-m-l.false, lt-leb _ _ c.if-m-gt-MOST_ROWS.true))
+
+pub returns : goal.returns
+unfolding need_of
+returns c =
+    need_met (rw (le-leb _ _ c.if-l-lt1.false, le-leb _ _ c.if-m-l.false, le-leb _ _ c.if-m-gt-MOST_ROWS.false)
+    (ap Entries c.rooms_for.ensures))

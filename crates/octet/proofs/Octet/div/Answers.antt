@@ -1,0 +1,20 @@
+-- `octet::Octet::div` meets its contract: exponents subtract. Assumes nothing.
+use mathlib.Core.Path.{sym, ◌∙◌}
+use native.Mathlib.Omega.{arith}
+use borrow.Author.Rules.{rules}
+use Rattle.octet.specs.Answers.{divided_zero, divided_value}
+use Rattle.octet.specs.Powers.{quotient-powers, quotient-zero}
+use Rattle.octet.proofs.Octet.div.Goals as goal
+
+pub returns-then-b-eq0 : goal.returns-then-b-eq0
+returns-then-b-eq0 c = divided_zero c.if-b-eq0.true
+
+pub returns-then-a-eq0 : goal.returns-then-a-eq0
+returns-then-a-eq0 c = divided_value (omega arith) (rw c.if-a-eq0.true (sym (quotient-zero _)))
+
+pub returns : goal.returns
+returns c = let x = c.log in
+    let y = c.log-2 in
+    divided_value (omega arith)
+    (c.exp.ensures
+    ∙ quotient-powers _ _ x.result y.result (omega arith) (omega arith) (omega arith) x.ensures.1 y.ensures.1 (omega arith))

@@ -1,0 +1,17 @@
+-- `octets::fma_short` meets its contract. The loop makes the sum from the front. Assumes nothing.
+use mathlib.Core.Path.{sym, ap₂, ◌∙◌}
+use Prim.Native.Nat.{◌-◌}
+use native.Mathlib.Omega.{arith}
+use lib.ListN.{length}
+use borrow.Author.Rules.{rules}
+use Rattle.loops.specs.Front.{Front, begin, unread, turn, end}
+use Rattle.octet.specs.Octet.{add}
+use Rattle.octets.specs.Rows.{fma_row}
+use Rattle.octets.specs.Laws.{length-fma_row, get_or-fma_row}
+use Rattle.octets.proofs.fma_short.Given as goal
+
+abbrev pub invariant-loop-i : goal.invariant-loop-i
+invariant-loop-i l = Front (fma_row l.initial.dest l.src l.k) l.initial.dest l.dest l.i
+
+abbrev pub decreases-loop-i : goal.decreases-loop-i
+decreases-loop-i l = length l.initial.dest - l.i

@@ -1,0 +1,16 @@
+-- `multiples::gather` meets its contract. Assumes nothing.
+use mathlib.Core.Path.{ap, subst}
+use Prim.Native.Nat.{ℕ, ◌+◌, ◌-◌, ◌*◌, ◌/◌, ◌%◌, ◌≤◌}
+use native.Mathlib.Omega.{arith}
+use lib.ListN.{length, get_or}
+use borrow.Author.Rules.{rules}
+use Rattle.octet.specs.Octet.{add}
+use Rattle.octets.specs.Spans.{Span, span_start, span_next, span_upto}
+use Rattle.octets.specs.Multiples.{digits_at}
+use Rattle.octets.proofs.multiples.gather.Given as goal
+
+abbrev pub invariant-loop-i : goal.invariant-loop-i
+invariant-loop-i l = (l.i ≤ length l.initial.dest) × Span (digits_at l.initial.dest l.room l.k) l.initial.dest 0 l.i l.dest
+
+abbrev pub decreases-loop-i : goal.decreases-loop-i
+decreases-loop-i l = length l.initial.dest - l.i

@@ -1,0 +1,18 @@
+-- `params::answer` meets its contract: the digits are the figures. Assumes nothing.
+use mathlib.Core.Path.{sym, ◌∙◌}
+use borrow.Author.Rules.{rules, Fits-under}
+use Rattle.params.specs.Answers.{answer-found, answer_long}
+use Rattle.params.proofs.Packing.{front_small, packed_none, packed-some}
+use Rattle.params.proofs.answer.Goals as goal
+
+pub returns-then-row-eq0 : goal.returns-then-row-eq0
+returns-then-row-eq0 c = sym (packed_none _ c.if-row-eq0.true)
+
+pub overflow_add-l : goal.overflow_add-l
+overflow_add-l c = Fits-under _ _ 65_536 (front_small _ _ _ c.requires.l_small) tt
+
+pub returns-then-l-le-MOST_ROWS : goal.returns-then-l-le-MOST_ROWS
+returns-then-l-le-MOST_ROWS c = sym (packed-some _ c.if-row-eq0.false ∙ answer-found _ c.if-l-le-MOST_ROWS.true)
+
+pub returns : goal.returns
+returns c = sym (packed-some _ c.if-row-eq0.false ∙ answer_long _ c.if-l-le-MOST_ROWS.false)
