@@ -1,0 +1,6 @@
+-- `stored::head` meets its contract: byte by byte. Assumes nothing.
+use borrow.Author.Rules.{rules}
+use Rattle.stored.proofs.head.Goals as goal
+
+pub returns : goal.returns
+returns c = cc

@@ -1,0 +1,22 @@
+-- `digits::fill_bits` meets its contract: the room is filled from the front. Assumes nothing.
+use borrow.Author.Rules.{rules}
+use native.Mathlib.Omega.{arith}
+use Prim.Native.Nat.{◌-◌}
+use mathlib.Core.Path.{sym, ◌∙◌}
+use lib.ListN.{length, take}
+use lib.Seq.{length-take-le, get_or-take}
+use Rattle.loops.specs.Front.{Front, begin, turn, end}
+use Rattle.systems.specs.Digits.{bits_in, length_bits}
+use Rattle.systems.proofs.digits.fill_bits.Goals as goal
+
+pub loop-i-init : goal.loop-i-init
+loop-i-init c = let a = c.args in begin (length-take-le _ _ (omega (arith, length_bits a.digits.now, c.requires)))
+
+pub loop-i-preserved : goal.loop-i-preserved
+loop-i-preserved c =
+    let a = c.args in
+    let l = c.loop-i.invariant in
+    turn l c.loop-i-test.true (c.bit.ensures ∙ sym (get_or-take (length a.out.now) (bits_in a.digits.now) c.loop-i.i 0 (omega (arith, l.long))))
+
+pub returns : goal.returns
+returns c = end c.loop-i.invariant c.loop-i-test.false

@@ -1,0 +1,13 @@
+-- `words::line_end` meets its contract: the end is as far from here as it was. Assumes nothing.
+use borrow.Author.Rules.{rules}
+use Prim.Native.Nat.{◌+◌, ◌-◌}
+use mathlib.Core.Path.{◌≡◌, refl, sym, ◌∙◌}
+use lib.ListN.{length, drop}
+use Rattle.systems.specs.Text.{end_of, end_here, end_next, end_over}
+use Rattle.systems.proofs.words.line_end.Given as goal
+
+abbrev pub invariant-loop-i : goal.invariant-loop-i
+invariant-loop-i l = l.from + end_of (drop l.from l.text) ≡ l.i + end_of (drop l.i l.text)
+
+abbrev pub decreases-loop-i : goal.decreases-loop-i
+decreases-loop-i l = length l.text - l.i

@@ -1,0 +1,14 @@
+-- `words::read_digits` meets its contract: what is left says the same number. Assumes nothing.
+use borrow.Author.Rules.{rules}
+use native.Mathlib.Omega.{arith}
+use Prim.Native.Nat.{◌-◌, ◌≤◌, ◌<◌}
+use mathlib.Core.Path.{◌≡◌, refl, sym, ◌∙◌}
+use lib.ListN.{length, drop}
+use Rattle.systems.specs.Text.{digits_of, digits_space, digits_low, digits_high, digits_large, digits_next, digits_over}
+use Rattle.systems.proofs.words.read_digits.Given as goal
+
+abbrev pub invariant-loop-i : goal.invariant-loop-i
+invariant-loop-i l = (l.i ≤ length l.line) × (l.value < 10000000) × (digits_of 0 l.from (drop l.from l.line) ≡ digits_of l.value l.i (drop l.i l.line))
+
+abbrev pub decreases-loop-i : goal.decreases-loop-i
+decreases-loop-i l = length l.line - l.i
