@@ -1,0 +1,16 @@
+-- `shown::put_all` meets its contract: what is left to put makes the same text. Assumes nothing.
+use Prim.Native.Nat.{◌-◌}
+use mathlib.Core.Path.{◌≡◌, refl}
+use native.Mathlib.Omega.{arith}
+use borrow.Author.Rules.{rules}
+use lib.ListN.{length, drop, drop_of_length-le}
+use Rattle.loops.specs.Part.{drop-next}
+use Rattle.loops.specs.Room.{log, puts}
+use Rattle.shown.specs.Put.{byte, one, turn, over}
+use Rattle.shown.proofs.put_all.Given as goal
+
+abbrev pub invariant-loop-k : goal.invariant-loop-k
+invariant-loop-k l = (length l.out ≡ length l.initial.out) × (puts byte (log l.initial.out l.n) l.s ≡ puts byte (log l.out l.at) (drop l.k l.s))
+
+abbrev pub decreases-loop-k : goal.decreases-loop-k
+decreases-loop-k l = length l.s - l.k

@@ -1,0 +1,16 @@
+-- `shown::put_entries` meets its contract: what is left to put makes the same text. Assumes nothing.
+use Prim.Native.Nat.{◌-◌}
+use mathlib.Core.Path.{◌≡◌, refl, ap}
+use native.Mathlib.Omega.{arith}
+use borrow.Author.Rules.{rules}
+use lib.ListN.{length, drop, drop_of_length-le}
+use Rattle.loops.specs.Room.{log, puts}
+use Rattle.shown.specs.Text.{entries_text}
+use Rattle.shown.specs.Put.{byte, turn, over, entries_text-drop}
+use Rattle.shown.proofs.put_entries.Given as goal
+
+abbrev pub invariant-loop-k : goal.invariant-loop-k
+invariant-loop-k l = (length l.out ≡ length l.initial.out) × (puts byte (log l.initial.out l.n) (entries_text l.order) ≡ puts byte (log l.out l.at) (entries_text (drop l.k l.order)))
+
+abbrev pub decreases-loop-k : goal.decreases-loop-k
+decreases-loop-k l = length l.order - l.k
