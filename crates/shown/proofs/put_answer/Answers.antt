@@ -10,23 +10,23 @@ use Rattle.shown.proofs.put_answer.Goals as goal
 pub slice_bounds-put_list-end : goal.slice_bounds-put_list-end
 slice_bounds-put_list-end c =
     let a = c.args in
-    let h = subst (λ (r : Reading). Filled r a.list.now a.order.now) c.answer.given.1 c.requires in
+    let h = subst (λ (r : Reading). Filled r a.list.now a.order.now) c.in-Kept.is c.requires in
     sym (length-take-le _ _ h.list)
 
 pub slice_bounds-put_list-end-in-Kept : goal.slice_bounds-put_list-end-in-Kept
 slice_bounds-put_list-end-in-Kept c =
     let a = c.args in
-    let h = subst (λ (r : Reading). Filled r a.list.now a.order.now) c.answer.given.1 c.requires in
-    sym (length-take-le _ _ (omega (arith, h.order, c.order-size.ensures.0)))
+    let h = subst (λ (r : Reading). Filled r a.list.now a.order.now) c.in-Kept.is c.requires in
+    sym (length-take-le _ _ (omega (arith, h.order, c.order_size-k.ensures.0)))
 
 pub put_list-requires : goal.put_list-requires
 put_list-requires c =
     let a = c.args in
-    let h = subst (λ (r : Reading). Filled r a.list.now a.order.now) c.answer.given.1 c.requires in
+    let h = subst (λ (r : Reading). Filled r a.list.now a.order.now) c.in-Kept.is c.requires in
     h.known
 
 pub returns-in-Kept : goal.returns-in-Kept
-returns-in-Kept c = rw (c.answer.given.1, ← c.order-size.ensures.0) c.put_list.ensures
+returns-in-Kept c = rw (c.in-Kept.is, ← c.order_size-k.ensures.0) c.put_list.ensures
 
 pub returns-in-BadShape : goal.returns-in-BadShape
 returns-in-BadShape c = rw c.in-BadShape.is c.put_refused.ensures

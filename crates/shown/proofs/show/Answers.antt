@@ -15,11 +15,11 @@ unfolding showing
 returns-then-form-gt65536 c = rw (lt-leb _ _ c.if-form-gt65536.true) (same_screen c.put_refused.ensures refl refl)
 
 pub put_answer-requires : goal.put_answer-requires
-put_answer-requires c = (read_shown _ _ _ _ _ _ c.read.ensures.is).filled
+put_answer-requires c = (read_shown _ _ _ _ _ _ c.read-answer.ensures.is).filled
 
 pub returns : goal.returns
 unfolding showing
 returns c =
-    let e = c.read.ensures.is in
-    rw (le-leb _ _ c.if1.false)
+    let e = c.read-answer.ensures.is in
+    rw (le-leb _ _ c.if-form-gt65536.false)
     (same_screen (c.put_answer.ensures ∙ ap (puts byte _) (read_shown _ _ _ _ _ _ e).is) (ap (λ (g : Got). g.list) e) (ap (λ (g : Got). g.order) e))

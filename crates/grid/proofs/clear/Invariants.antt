@@ -1,0 +1,13 @@
+use mathlib.Core.Path.{refl}
+use Prim.Native.Nat.{◌-◌}
+use lib.ListN.{length}
+use Rattle.grid.specs.Grid.{Filled, fill_start, fill_next, fill_end}
+use native.Mathlib.Omega.{arith}
+use borrow.Author.Rules.{rules}
+use Rattle.grid.proofs.clear.Given as goal
+
+abbrev pub invariant-loop-k : goal.invariant-loop-k
+invariant-loop-k l = Filled (λ _. 0) (length l.initial.s) l.k l.s
+
+abbrev pub decreases-loop-k : goal.decreases-loop-k
+decreases-loop-k l = length l.initial.s - l.k

@@ -1,0 +1,8 @@
+use Rattle.loops.specs.Entry.{entry_within}
+use Rattle.grid.specs.Grid.{bit}
+use borrow.Author.Rules.{rules}
+use Rattle.grid.proofs.has.Goals as goal
+
+pub returns : goal.returns
+unfolding bit
+returns c = let h = c.requires.1 in rw entry_within
