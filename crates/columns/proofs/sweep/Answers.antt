@@ -3,10 +3,10 @@ use mathlib.Core.Path.{sym, ◌∙◌}
 use Prim.Native.Nat.{◌-◌}
 use Rattle.columns.specs.Sweep.{Swept, swept-start, swept-zero, swept_none, swept-one, swept_end}
 use Rattle.grid.specs.Grid.{bit}
-use mathlib.Core.Logic.{⊎_elim}
 use native.Mathlib.Omega.{arith}
 use borrow.Author.Rules.{rules}
 use Rattle.columns.proofs.sweep.Goals as goal
+use Rattle.columns.proofs.sweep.Goals.{then-has+then-z-v, then-has+else-z-v, else-has}
 
 pub loop-c-init : goal.loop-c-init
 loop-c-init c =
@@ -23,7 +23,7 @@ has-requires c =
 pub last_zero-z-requires : goal.last_zero-z-requires
 last_zero-z-requires c =
       record {
-        l_in_bounds = c.requires.0.0;
+        l_in_bounds = c.requires.l_in_bounds.0;
         under = c.loop-c.invariant.under;
       }
 
@@ -32,12 +32,13 @@ swap-requires c =
     (omega (arith, c.loop-c.invariant.long, c.loop-c.invariant.fits, c.loop-c-test.true), c.if-z-v.true)
 
 pub loop-c-preserved : goal.loop-c-preserved
-loop-c-preserved c = ⊎_elim
-    (λ w. rw w.8 (swept-one c.loop-c.invariant c.loop-c-test.true (sym c.has.ensures ∙ w.0.taken) w.2.ensures w.3.taken w.5.ensures))
-    (λ o. ⊎_elim
-    (λ w. rw w.4 (swept_none c.loop-c.invariant c.loop-c-test.true (sym c.has.ensures ∙ w.0.taken) w.2.ensures w.3.left))
-    (λ w. rw w.1 (swept-zero c.loop-c.invariant c.loop-c-test.true (sym c.has.ensures ∙ w.0.left))) o)
-    c.if-has.branch
+loop-c-preserved c =
+    elim c.if-has.branch
+      [ then-has+then-z-v w ↦
+          rw w.v-is (swept-one c.loop-c.invariant c.loop-c-test.true (sym c.has.ensures ∙ w.if-has.true) w.last_zero-z.ensures w.if-z-v.true w.swap.ensures)
+      | then-has+else-z-v w ↦ rw w.v-is (swept_none c.loop-c.invariant c.loop-c-test.true (sym c.has.ensures ∙ w.if-has.true) w.last_zero-z.ensures w.if-z-v.false)
+      | else-has w ↦ rw w.v-is (swept-zero c.loop-c.invariant c.loop-c-test.true (sym c.has.ensures ∙ w.if-has.false))
+      ]
 
 pub returns : goal.returns
 returns c = swept_end c.loop-c.invariant c.loop-c-test.false
