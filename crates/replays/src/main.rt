@@ -8,7 +8,7 @@
 mod text;
 
 use libc::{STDIN_FILENO, STDOUT_FILENO};
-use slab::Answer;
+use symbol_slab::Answer;
 
 // What a case starts with.
 #[derive(Clone, Copy)]
@@ -87,10 +87,10 @@ fn compare(
     bytes: &mut [u8],
 ) {
     io::write_all(STDOUT_FILENO, b"replay");
-    let r = slab::replay(h.m, h.l, h.t, list, h.ordered, order, bytes);
+    let r = symbol_slab::replay(h.m, h.l, h.t, list, h.ordered, order, bytes);
     say(r, same_bytes(input, after, &bytes[..]));
     io::write_all(STDOUT_FILENO, b" undo");
-    let u = slab::undo(h.m, h.l, h.t, list, h.ordered, order, bytes);
+    let u = symbol_slab::undo(h.m, h.l, h.t, list, h.ordered, order, bytes);
     if is_not_undoable(u) {
         say(u, same_bytes(input, after, &bytes[..]));
     } else {

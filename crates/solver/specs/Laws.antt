@@ -46,8 +46,8 @@ use Rattle.algebra.specs.Rows.{Good, runs, undo}
 use Rattle.algebra.specs.Solve.{Unnamed, Reduces}
 use Rattle.algebra.specs.Flat.{Bytes, acts, length-acts, undo-acts}
 use Rattle.algebra.specs.Slab.{Source, through, solved, only, report}
-use Rattle.slab.specs.declared.Answer.TheVariants.{InPlace}
-use Rattle.slab.specs.Replay.{read_by, slab_shaped, checked as slabChecked, outcome as slabbed, replayed, undone}
+use Rattle.symbol_slab.specs.declared.Answer.TheVariants.{InPlace}
+use Rattle.symbol_slab.specs.Replay.{read_by, slab_shaped, checked as slabChecked, outcome as slabbed, replayed, undone}
 use Rattle.rule.specs.Permitted.{Permitted}
 use Rattle.rule.specs.Rule.{chosen}
 use Rattle.phases.specs.System.{Shape, octet_rows}

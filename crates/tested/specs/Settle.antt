@@ -13,9 +13,9 @@ use Rattle.oplist.specs.Word.{packed}
 use Rattle.oplist.specs.Listed.{ops_of}
 use Rattle.oplist.specs.Check.{shape_fine, list_fine, order_fine}
 use Rattle.oplist.specs.Facts.{shape-shape_fine}
-use Rattle.slab.specs.declared.Answer.{Answer as Replayed}
-use Rattle.slab.specs.declared.Answer.TheVariants.{InPlace}
-use Rattle.slab.specs.Replay.{slab_shaped, checked, Outcome as Replay, outcome as replay, replayed}
+use Rattle.symbol_slab.specs.declared.Answer.{Answer as Replayed}
+use Rattle.symbol_slab.specs.declared.Answer.TheVariants.{InPlace}
+use Rattle.symbol_slab.specs.Replay.{slab_shaped, checked, Outcome as Replay, outcome as replay, replayed}
 use Rattle.algebra.specs.Flat.{Bytes, acts}
 use Rattle.phases.specs.Run.{Answer as Told}
 use Rattle.call.specs.declared.Shape.{Shape}

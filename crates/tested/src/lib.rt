@@ -40,7 +40,7 @@ fn settle(
     ensures { Settled t (ops_in a) list.old slab.old list.new slab.new }
 {
     let n = operations(a);
-    slab::replay(m, l, t, &list[0..n], false, order, slab);
+    symbol_slab::replay(m, l, t, &list[0..n], false, order, slab);
     call::clear::words(list, n);
 }
 

@@ -14,7 +14,7 @@ use Rattle.tested.proofs.settle.Reads as reads
 use Rattle.tested.proofs.settle.Lts as lts
 use Rattle.tested.proofs.operations.Reads as operations-reads
 use Rattle.call.proofs.clear.words.Reads as words-reads
-use Rattle.slab.proofs.replay.Reads as replay-reads
+use Rattle.symbol_slab.proofs.replay.Reads as replay-reads
 
 operations-requires : tie.Need-operations-requires
 operations-requires c κs = search rules
