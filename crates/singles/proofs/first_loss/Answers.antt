@@ -1,0 +1,7 @@
+use Rattle.singles.specs.Figures.{first_done}
+use native.Mathlib.Omega.{arith}
+use borrow.Author.Rules.{rules}
+use Rattle.singles.proofs.first_loss.Goals as goal
+
+pub returns : goal.returns
+returns c = first_done c.requires.0 c.requires.1 c.take_one-k.ensures c.lose_first.ensures

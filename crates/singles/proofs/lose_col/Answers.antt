@@ -1,0 +1,29 @@
+use mathlib.Core.Path.{sym, ◌∙◌}
+use mathlib.Core.Logic.{⊎_elim}
+use Prim.Native.Nat.{◌-◌}
+use lib.ListN.{length}
+use Rattle.grid.specs.Grid.{bit}
+use Rattle.singles.specs.Figures.{Going, going_start, going_hit, going_skip, going_end, lose_one, at_row}
+use native.Mathlib.Omega.{arith}
+use borrow.Author.Rules.{rules}
+use Rattle.singles.proofs.lose_col.Goals as goal
+use Rattle.singles.proofs.lose_col.Goals.{then-has, else-has}
+
+pub loop-k-init : goal.loop-k-init
+loop-k-init c = going_start c.requires.3
+
+pub has-requires : goal.has-requires
+has-requires c = (c.requires.0.at _ c.loop-k-test.true, c.requires.1)
+
+pub lose_one-m-requires : goal.lose_one-m-requires
+lose_one-m-requires c = (c.loop-k.invariant.sound, at_row c.loop-k.invariant c.requires.2 c.loop-k-test.true)
+
+pub loop-k-preserved : goal.loop-k-preserved
+loop-k-preserved c =
+    elim c.if-has.branch
+      [ then-has w ↦ rw (w.8, w.9, w.10) (going_hit c.loop-k.invariant c.loop-k-test.true (sym c.has.ensures ∙ w.if-has.true) w.3.ensures)
+      | else-has w ↦ rw (w.ones-is, w.ones-is, w.3) (going_skip c.loop-k.invariant c.loop-k-test.true (sym c.has.ensures ∙ w.if-has.false))
+      ]
+
+pub returns : goal.returns
+returns c = going_end c.loop-k.invariant c.loop-k-test.false

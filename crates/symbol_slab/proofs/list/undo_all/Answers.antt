@@ -1,0 +1,31 @@
+-- `list::undo_all` meets its contract. Assumes nothing.
+use Prim.Native.Nat.{◌-◌, ◌≤◌}
+use lib.ListN.{length}
+use Rattle.algebra.specs.Rows.{undo}
+use Rattle.octets.specs.Multiples.{Blank, blank-zeros}
+use Rattle.oplist.specs.Listed.{ops_of}
+use Rattle.symbol_slab.specs.Turns.{all-inverse}
+use Rattle.symbol_slab.specs.Columns.{Cols, cols-start, cols_join, cols-all}
+use native.Mathlib.Omega.{arith}
+use borrow.Author.Rules.{rules}
+use Rattle.symbol_slab.proofs.list.undo_all.Goals as goal
+
+pub loop-at-init : goal.loop-at-init
+loop-at-init c = (omega arith, cols-start, blank-zeros)
+
+pub undo_columns-requires : goal.undo_columns-requires
+undo_columns-requires c =
+    let now = c.loop-at in
+    let n = c.least-n.ensures in
+    (rw now.invariant.1.long c.requires, n.0, n.2, omega arith, now.invariant.2)
+
+pub loop-at-preserved : goal.loop-at-preserved
+loop-at-preserved c =
+    let now = c.loop-at in
+    let n = c.least-n.ensures in
+    let call = c.undo_columns in
+    (omega arith, cols_join now.invariant.1 call.ensures.0 (omega arith) (omega arith), call.ensures.1)
+
+pub returns : goal.returns
+returns c =
+    cols-all c.loop-at.invariant.1 c.loop-at.invariant.0 (omega arith) (all-inverse c.args.t (length c.args.slab.now) (ops_of c.args.list.now) c.requires)

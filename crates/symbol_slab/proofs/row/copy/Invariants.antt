@@ -1,0 +1,14 @@
+-- `row::copy` meets its contract: the loop makes src from the front. Assumes nothing.
+use mathlib.Core.Path.{refl, sym}
+use Prim.Native.Nat.{◌-◌}
+use native.Mathlib.Omega.{arith}
+use borrow.Author.Rules.{rules}
+use lib.ListN.{length}
+use Rattle.loops.specs.Front.{Front, begin, turn, end}
+use Rattle.symbol_slab.proofs.row.copy.Given as goal
+
+abbrev pub invariant-loop-i : goal.invariant-loop-i
+invariant-loop-i l = Front l.src l.initial.dest l.dest l.i
+
+abbrev pub decreases-loop-i : goal.decreases-loop-i
+decreases-loop-i l = length l.initial.dest - l.i

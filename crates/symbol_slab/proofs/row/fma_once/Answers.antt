@@ -1,0 +1,12 @@
+-- `row::fma_once` meets its contract. Assumes nothing.
+use Rattle.symbol_slab.specs.Placed.{copy_span, copy_blank}
+use native.Mathlib.Omega.{arith}
+use borrow.Author.Rules.{rules}
+use Rattle.symbol_slab.proofs.row.fma_once.Goals as goal
+
+pub returns : goal.returns
+returns c =
+    let a = c.args in
+    let p = c.requires in
+    let f = c.copy.ensures in
+    (copy_span a.slab.now p.0 p.1 p.2 f a.k c.fma.ensures.is, copy_blank a.slab.now p.0 p.1 p.2 f)
