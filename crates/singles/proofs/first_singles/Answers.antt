@@ -22,8 +22,8 @@ put_in-n-requires c = pick-room c.loop-k.invariant c.requires.1 c.loop-k-test.tr
 pub loop-k-preserved : goal.loop-k-preserved
 loop-k-preserved c =
     elim c.if-ones_of-eq1.branch
-      [ then-ones_of-eq1 w ↦ rw (w.5, w.6) (pick_in c.loop-k.invariant c.loop-k-test.true (eq-eqb _ _ (sym c.ones_of.ensures ∙ w.if-ones_of-eq1.true)) w.s-is.ensures.0 w.s-is.ensures.1)
-      | else-ones_of-eq1 w ↦ rw (w.s-is, w.s-is) (pick_skip c.loop-k.invariant c.loop-k-test.true (ne_eqb _ _ (λ q. w.if-ones_of-eq1.false (c.ones_of.ensures ∙ q))))
+      [ then-ones_of-eq1 w ↦ rw (w.s-is, w.n-is) (pick_in c.loop-k.invariant c.loop-k-test.true (eq-eqb _ _ (sym c.ones_of.ensures ∙ w.if-ones_of-eq1.true)) w.put_in-n.ensures.0 w.put_in-n.ensures.1)
+      | else-ones_of-eq1 w ↦ rw (w.s-is, w.n-is) (pick_skip c.loop-k.invariant c.loop-k-test.true (ne_eqb _ _ (λ q. w.if-ones_of-eq1.false (c.ones_of.ensures ∙ q))))
       ]
 
 pub returns : goal.returns

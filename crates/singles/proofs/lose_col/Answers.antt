@@ -21,8 +21,8 @@ lose_one-m-requires c = (c.loop-k.invariant.sound, at_row c.loop-k.invariant c.r
 pub loop-k-preserved : goal.loop-k-preserved
 loop-k-preserved c =
     elim c.if-has.branch
-      [ then-has w ↦ rw (w.8, w.9, w.10) (going_hit c.loop-k.invariant c.loop-k-test.true (sym c.has.ensures ∙ w.if-has.true) w.3.ensures)
-      | else-has w ↦ rw (w.ones-is, w.ones-is, w.3) (going_skip c.loop-k.invariant c.loop-k-test.true (sym c.has.ensures ∙ w.if-has.false))
+      [ then-has w ↦ rw (w.ones-is, w.s-is, w.m-is) (going_hit c.loop-k.invariant c.loop-k-test.true (sym c.has.ensures ∙ w.if-has.true) w.lose_one-m.ensures)
+      | else-has w ↦ rw (w.ones-is, w.s-is, w.m-is) (going_skip c.loop-k.invariant c.loop-k-test.true (sym c.has.ensures ∙ w.if-has.false))
       ]
 
 pub returns : goal.returns

@@ -21,8 +21,8 @@ refresh-m-requires c = (c.loop-k.invariant.sound, at_row c.loop-k.invariant c.re
 pub loop-k-preserved : goal.loop-k-preserved
 loop-k-preserved c =
     elim c.if-has.branch
-      [ then-has w ↦ rw (w.5, w.6) (going_hit c.loop-k.invariant c.loop-k-test.true (sym c.has.ensures ∙ w.if-has.true) w.s-is.ensures)
-      | else-has w ↦ rw (w.s-is, w.s-is) (going_skip c.loop-k.invariant c.loop-k-test.true (sym c.has.ensures ∙ w.if-has.false))
+      [ then-has w ↦ rw (w.s-is, w.m-is) (going_hit c.loop-k.invariant c.loop-k-test.true (sym c.has.ensures ∙ w.if-has.true) w.refresh-m.ensures)
+      | else-has w ↦ rw (w.s-is, w.m-is) (going_skip c.loop-k.invariant c.loop-k-test.true (sym c.has.ensures ∙ w.if-has.false))
       ]
 
 pub returns : goal.returns
