@@ -1,0 +1,14 @@
+-- `choice::biggest` meets its contract. Assumes nothing.
+use Rattle.choice.specs.Sizes.{Growing, grow_start, grow_first, grow_next, grow_stay, grow_end}
+use Rattle.figures.specs.Told.{told}
+use mathlib.Core.Logic.{⊎_elim}
+use Prim.Native.Nat.{◌-◌}
+use native.Mathlib.Omega.{arith}
+use borrow.Author.Rules.{rules}
+use Rattle.choice.proofs.biggest.Given as goal
+
+abbrev pub invariant-loop-c : goal.invariant-loop-c
+invariant-loop-c l = Growing (told l.labels) l.v l.n l.b l.c
+
+abbrev pub decreases-loop-c : goal.decreases-loop-c
+decreases-loop-c l = l.n - l.c

@@ -1,0 +1,14 @@
+-- `choice::sizes_of` meets its contract. Assumes nothing.
+use Rattle.choice.specs.Sizes.{Sizing, size-start, size-next, size_fits, size_end}
+use Rattle.figures.specs.Told.{told}
+use lib.ListN.{length}
+use Prim.Native.Nat.{◌-◌}
+use native.Mathlib.Omega.{arith}
+use borrow.Author.Rules.{rules}
+use Rattle.choice.proofs.sizes_of.Given as goal
+
+abbrev pub invariant-loop-k : goal.invariant-loop-k
+invariant-loop-k l = Sizing (told l.labels) l.v (length l.initial.sizes) l.k l.sizes
+
+abbrev pub decreases-loop-k : goal.decreases-loop-k
+decreases-loop-k l = length l.v - l.k

@@ -1,0 +1,16 @@
+-- `clearing::clear_octets` meets its contract: what is left to record of the octet rows. Assumes nothing.
+use mathlib.Core.Logic.{⊎_elim}
+use Prim.Native.Nat.{◌+◌, ◌-◌, ◌*◌}
+use lib.ListN.{get_or}
+use native.Mathlib.Omega.{arith}
+use borrow.Author.Rules.{rules}
+use Rattle.oplist.specs.Multiple.{small_multiple}
+use Rattle.tally.specs.Book.{book}
+use Rattle.clearing.specs.Clear.{Multiples, octet_start, octet_within, octet_none, octet_next, octet_end}
+use Rattle.clearing.proofs.clear_octets.Given as goal
+
+abbrev pub invariant-loop-j : goal.invariant-loop-j
+invariant-loop-j l = Multiples l.l l.s l.octets l.q l.x l.h (book l.initial.list l.initial.r) l.j (book l.list l.r)
+
+abbrev pub decreases-loop-j : goal.decreases-loop-j
+decreases-loop-j l = l.h - l.j

@@ -1,0 +1,14 @@
+use Rattle.labels.specs.Marking.{Seeking, seek_start, seek_next, seek_hit, seek_end}
+use Rattle.grid.specs.Grid.{bit}
+use mathlib.Core.Path.{sym, ◌∙◌}
+use Prim.Native.Nat.{◌-◌}
+use lib.ListN.{length}
+use native.Mathlib.Omega.{arith}
+use borrow.Author.Rules.{rules}
+use Rattle.labels.proofs.next_one.Given as goal
+
+abbrev pub invariant-loop-p : goal.invariant-loop-p
+invariant-loop-p l = Seeking (bit l.l l.bits l.y) l.v l.k l.p
+
+abbrev pub decreases-loop-p : goal.decreases-loop-p
+decreases-loop-p l = length l.v - l.p

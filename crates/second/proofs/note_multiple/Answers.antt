@@ -1,0 +1,28 @@
+-- `second::note_multiple` meets its contract. Assumes nothing.
+use mathlib.Core.Path.{sym, ap, ◌∙◌}
+use mathlib.Core.List.{[], ◌∷◌}
+use Prim.Native.Nat.{ℕ}
+use Rattle.oplist.specs.Multiple.{small_multiple}
+use Rattle.phases.specs.Forward.{entry-multiple}
+use Rattle.oplist.specs.declared.Op.{Op}
+use Rattle.phases.specs.One.{entry}
+use Rattle.second.specs.Backward.{cleared_none, cleared_one, cleared_as}
+use native.Mathlib.Omega.{arith}
+use borrow.Author.Rules.{rules}
+use Rattle.second.proofs.note_multiple.Goals as goal
+
+pub returns-then-c-eq0 : goal.returns-then-c-eq0
+returns-then-c-eq0 c = cleared_as (ap (λ (n : ℕ). entry n c.args.y c.args.x []) (sym c.if-c-eq0.true)) cleared_none
+
+pub record-requires : goal.record-requires
+record-requires c =
+    let a = c.args in
+      record {
+        small = small_multiple a.c a.y a.x (omega (arith, c)) c.requires.y_bound.0 c.requires.y_bound.1 c.multiple_of-op.ensures;
+        fair = c.requires.fair;
+      }
+
+pub returns : goal.returns
+returns c =
+    let a = c.args in
+    cleared_as (ap (λ (o : Op). o ∷ []) c.multiple_of-op.ensures ∙ sym (entry-multiple a.c a.y a.x [] c.if-c-eq0.false)) (cleared_one c.record.ensures.is)

@@ -1,0 +1,10 @@
+-- `second::read` meets its contract. Assumes nothing.
+use mathlib.Core.Path.{sym}
+use Rattle.second.specs.Store.{at-store_of}
+use borrow.Author.Rules.{rules}
+use Rattle.second.proofs.read.Goals as goal
+
+pub returns : goal.returns
+returns c =
+    let a = c.args in
+    sym (at-store_of a.m a.l a.i a.work.now c.requires.sized a.y c.requires.y_lt_m.0 a.q c.cell-k.result c.requires.y_lt_m.1 c.requires.y_lt_m.2 c.cell-k.ensures.is)
