@@ -14,7 +14,7 @@ use Prim.Native.Nat.{◌-◌}
 use native.Mathlib.Omega.{arith}
 use borrow.Author.Rules.{rules}
 use Rattle.choice.proofs.at_node.Goals as goal
-use Rattle.choice.proofs.at_node.Goals.{then-ones_of-eq2, else-ones_of-eq2}
+use Rattle.choice.proofs.at_node.Goals.{then-ones_of-eq2+else-has, else-ones_of-eq2}
 
 pub loop-k-init : goal.loop-k-init
 loop-k-init c = seek_start
@@ -32,10 +32,10 @@ returns-then-has c = seek_found c.loop-k.invariant c.loop-k-test.true (and_both 
 pub loop-k-preserved : goal.loop-k-preserved
 loop-k-preserved c =
     seek_next c.loop-k.invariant c.loop-k-test.true
-    (
-    elim c.if-ones_of-eq2.branch
-      [ then-ones_of-eq2 w ↦ and_left _ (eqb (told c.args.ones.now (get_or c.args.e.now c.loop-k.k 0)) 2) (sym w.has.ensures ∙ w.#0-is.left)
-      | else-ones_of-eq2 w ↦ and_right (bit c.args.l c.args.bits.now (get_or c.args.e.now c.loop-k.k 0) c.args.q) _ (ne_eqb _ _ (λ q. w.left (c.ones_of.ensures ∙ q)))
+    (elim c.if-ones_of-eq2.branch
+      [ then-ones_of-eq2+else-has w ↦ and_left _ (eqb (told c.args.ones.now (get_or c.args.e.now c.loop-k.k 0)) 2) (sym w.has.ensures ∙ w.if-has.false)
+      | else-ones_of-eq2 w ↦
+          and_right (bit c.args.l c.args.bits.now (get_or c.args.e.now c.loop-k.k 0) c.args.q) _ (ne_eqb _ _ (λ q. w.if-ones_of-eq2.false (c.ones_of.ensures ∙ q)))
       ])
 
 pub returns : goal.returns

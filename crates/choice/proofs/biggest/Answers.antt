@@ -6,6 +6,7 @@ use Prim.Native.Nat.{◌-◌}
 use native.Mathlib.Omega.{arith}
 use borrow.Author.Rules.{rules}
 use Rattle.choice.proofs.biggest.Goals as goal
+use Rattle.choice.proofs.biggest.Goals.{then-b-eq0, else-b-eq0+then-sizes-b, else-b-eq0+else-sizes-b}
 
 pub sizes_of-requires : goal.sizes_of-requires
 sizes_of-requires c =
@@ -36,12 +37,11 @@ overflow_add-c c = omega (arith, c.loop-c-test.true, c.requires.n_nonzero.1)
 
 pub loop-c-preserved : goal.loop-c-preserved
 loop-c-preserved c =
-    ⊎_elim
-    (λ w. rw w.1 (grow_first c.sizes_of.ensures c.loop-c.invariant c.loop-c-test.true c.requires.n_nonzero.1 w.0.taken))
-    (λ o. ⊎_elim
-    (λ w. rw w.4 (grow_next c.sizes_of.ensures c.loop-c.invariant c.loop-c-test.true c.requires.n_nonzero.1 w.3.taken))
-    (λ w. rw w.4 (grow_stay c.sizes_of.ensures c.loop-c.invariant c.loop-c-test.true c.requires.n_nonzero.1 w.0.left w.3.left)) o)
-    c.if-b-eq0.branch
+    elim c.if-b-eq0.branch
+      [ then-b-eq0 w ↦ rw w.b-is (grow_first c.sizes_of.ensures c.loop-c.invariant c.loop-c-test.true c.requires.n_nonzero.1 w.if-b-eq0.true)
+      | else-b-eq0+then-sizes-b w ↦ rw w.b-is (grow_next c.sizes_of.ensures c.loop-c.invariant c.loop-c-test.true c.requires.n_nonzero.1 w.if-sizes-b.true)
+      | else-b-eq0+else-sizes-b w ↦ rw w.b-is (grow_stay c.sizes_of.ensures c.loop-c.invariant c.loop-c-test.true c.requires.n_nonzero.1 w.if-b-eq0.false w.if-sizes-b.false)
+      ]
 
 pub returns : goal.returns
 returns c = grow_end c.loop-c.invariant c.loop-c-test.false c.sizes_of.ensures

@@ -16,5 +16,5 @@ returns c =
     let k = c.lift in
     let X = store_of a.m a.l a.i a.work.now in
     c.fma_row.ensures
-    ∙ ap (λ (r : List ℕ). set X a.y (fma_row (get_or X a.y []) r a.c)) (take_at k.new.#1.1.1.1.1.0 _ (a.l - a.i - 0) (omega arith) ∙ k.ensures)
+    ∙ ap (λ (r : List ℕ). set X a.y (fma_row (get_or X a.y []) r a.c)) (take_at k.new.scratch _ (a.l - a.i - 0) (omega arith) ∙ k.ensures)
     ∙ act_fma a.m a.l a.i a.work.now c.requires.rooms.store a.y c.requires.y_lt_m.0 a.x a.c c.requires.y_lt_m.1

@@ -14,29 +14,6 @@ use native.Mathlib.Omega.{arith}
 use borrow.Author.Rules.{rules}
 use Rattle.second.proofs.forward.Goals as goal
 
-abbrev invariant-rows : tie.invariant-rows
-invariant-rows work m l i d scratch list r q p₀ p =
-    (q ≤ p)
-    × (p ≤ m)
-    × (head (filter (nonzero (store_of m l i work) (q - i)) (drop p d)) ≡ head (filter (nonzero (store_of m l i work) (q - i)) (drop q d)))
-
-abbrev decreases-rows : tie.decreases-rows
-decreases-rows work m l i d scratch list r q p₀ p = m - p
-
-abbrev invariant-columns : tie.invariant-columns
-invariant-columns work₀ m l i d₀ scratch₀ list₀ r₀ q₀ work d scratch list r q =
-    Ready m l i work scratch d (book list r)
-    × (i ≤ q)
-    × (q ≤ l)
-    × (length work ≡ length work₀)
-    × (length d ≡ length d₀)
-    × (length scratch ≡ length scratch₀)
-    × (length list ≡ length list₀)
-    × ((cols : List ℕ) → Going m l i cols work₀ d₀ (book list₀ r₀) q work d (book list r))
-
-abbrev decreases-columns : tie.decreases-columns
-decreases-columns work₀ m l i d₀ scratch₀ list₀ r₀ q₀ work d scratch list r q = l - q
-
 pub columns-init : goal.columns-init
 columns-init c =
     let r = c.requires in
