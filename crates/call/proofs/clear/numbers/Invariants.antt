@@ -1,0 +1,15 @@
+-- `clear::numbers` meets its contract: the loop makes zeros from the front. Assumes nothing.
+use mathlib.Core.Path.{sym}
+use Prim.Native.Nat.{◌-◌}
+use native.Mathlib.Omega.{arith}
+use borrow.Author.Rules.{rules}
+use lib.ListN.{length}
+use Rattle.loops.specs.Front.{Front, begin, turn, end}
+use Rattle.call.specs.Over.{blank, length_over, after-over}
+use Rattle.call.proofs.clear.numbers.Given as goal
+
+abbrev pub invariant-loop-k : goal.invariant-loop-k
+invariant-loop-k l = Front (blank l.initial.s) l.initial.s l.s l.k
+
+abbrev pub decreases-loop-k : goal.decreases-loop-k
+decreases-loop-k l = length l.initial.s - l.k

@@ -1,0 +1,18 @@
+-- `clear::slices` meets its contract. Assumes nothing.
+use native.Mathlib.Omega.{arith}
+use borrow.Author.Rules.{rules}
+use Rattle.call.specs.Call.{wiped_are}
+use Rattle.call.proofs.clear.slices.Goals as goal
+
+pub returns : goal.returns
+returns c =
+    wiped_are _ _ _ _ _ _ _ _ _
+    c.bytes.ensures
+    c.bytes-2.ensures
+    c.numbers.ensures
+    c.numbers-2.ensures
+    c.numbers-3.ensures
+    c.numbers-4.ensures
+    c.numbers-5.ensures
+    c.numbers-6.ensures
+    c.numbers-7.ensures

@@ -1,0 +1,10 @@
+-- `opening::start` meets its contract: the order, then the figures. Assumes nothing.
+use borrow.Author.Rules.{rules}
+use Rattle.opening.specs.Opened.{opens_lent, opened}
+use Rattle.opening.proofs.start.Goals as goal
+
+pub figures-requires : goal.figures-requires
+figures-requires c = opens_lent _ c.requires c.numbers.ensures c.first_rows.ensures
+
+pub returns : goal.returns
+returns c = opened _ c.requires c.numbers.ensures c.first_rows.ensures c.figures.ensures

@@ -1,0 +1,13 @@
+-- `rest::mark` meets its contract: the rows from a place on are marked. Assumes nothing.
+use Prim.Native.Nat.{◌-◌}
+use lib.ListN.{length}
+use native.Mathlib.Omega.{arith}
+use Rattle.rest.specs.Marks.{Marking, marking_start, marking_next, marking_end}
+use borrow.Author.Rules.{rules}
+use Rattle.rest.proofs.mark.Given as goal
+
+abbrev pub invariant-loop-k : goal.invariant-loop-k
+invariant-loop-k l = Marking l.xs (length l.initial.marks) l.k l.marks
+
+abbrev pub decreases-loop-k : goal.decreases-loop-k
+decreases-loop-k l = l.k

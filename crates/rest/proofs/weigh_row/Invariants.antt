@@ -1,0 +1,11 @@
+-- `rest::weigh_row` meets its contract: the products from a place on are summed. Assumes nothing.
+use native.Mathlib.Omega.{arith}
+use Rattle.rest.specs.Vector.{Weighed, weighed_start, weighed_next, weighed_end}
+use borrow.Author.Rules.{rules}
+use Rattle.rest.proofs.weigh_row.Given as goal
+
+abbrev pub invariant-loop-k : goal.invariant-loop-k
+invariant-loop-k l = Weighed l.row l.cs l.vector l.k l.sum.value
+
+abbrev pub decreases-loop-k : goal.decreases-loop-k
+decreases-loop-k l = l.k
