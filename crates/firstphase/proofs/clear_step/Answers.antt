@@ -1,0 +1,28 @@
+use Prim.Native.Nat.{◌-◌}
+use lib.ListN.{get_or}
+use Rattle.firstphase.specs.Clears.{below_at}
+use Rattle.loops.specs.Part.{part}
+use Rattle.clearing.specs.Clear.{cleared}
+use Rattle.stepping.specs.Turns.{as_shape}
+use native.Mathlib.Omega.{arith}
+use borrow.Author.Rules.{rules}
+use Rattle.firstphase.proofs.clear_step.Goals as goal
+
+pub clear_rows-first-requires : goal.clear_rows-first-requires
+unfolding part
+clear_rows-first-requires c =
+      record {
+        rows = (c.requires.clear.rows, c.requires.clear.binary, c.requires.clear.few, c.requires.clear.pivot, c.requires.clear.row);
+        fair = c.requires.fair;
+      }
+
+pub clear_octets-requires : goal.clear_octets-requires
+clear_octets-requires c =
+      record {
+        l_in_bounds = (c.requires.clear.octets, c.requires.clear.small, c.requires.clear.pivot, c.requires.clear.row);
+        fair = c.clear_rows-first.ensures.fair;
+      }
+
+pub returns : goal.returns
+unfolding part
+returns c = cleared (as_shape c.args.z) c.args.bits.now c.args.octets.now (get_or c.args.c.now c.args.i 0) (get_or c.args.d.now c.args.i 0) (below_at (as_shape c.args.z) c.args.i c.args.d.now) c.requires.clear.out c.clear_rows-first.ensures c.clear_octets.ensures

@@ -1,0 +1,16 @@
+use mathlib.Core.Path.{◌∙◌}
+use Prim.Native.Nat.{◌-◌}
+use lib.ListN.{length}
+use Rattle.tally.specs.Book.{book}
+use Rattle.stepping.specs.Turns.{as_shape}
+use Rattle.labels.specs.Marking.{as_long}
+use Rattle.firstphase.specs.Ended.{Looping, loop_start, step_clear, loop_next, turned_none, turned-some, same_cols, same_rows, same_ones, same_singles, same_labels, ended-none, ended_spent, sum_fits}
+use native.Mathlib.Omega.{arith}
+use borrow.Author.Rules.{rules}
+use Rattle.firstphase.proofs.steps.Given as goal
+
+abbrev pub invariant-loop-st : goal.invariant-loop-st
+invariant-loop-st l = Looping (as_shape l.z) l.bits l.octets (book l.initial.list l.initial.r) (length l.initial.sizes) l.c l.d l.ones l.s l.labels l.sizes l.st.i l.st.u l.st.singles l.st.next (book l.list l.r)
+
+abbrev pub decreases-loop-st : goal.decreases-loop-st
+decreases-loop-st l = l.z.l - l.st.i
