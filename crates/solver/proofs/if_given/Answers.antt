@@ -2,12 +2,6 @@
 use Rattle.solver.specs.Judge.{at-given, at_absent}
 use Rattle.solver.proofs.if_given.Goals as goal
 
-pub enum_told-1 : goal.enum_told-1
-enum_told-1 c = c.in-Given.keys1
-
-pub enum_told-in-Absent : goal.enum_told-in-Absent
-enum_told-in-Absent c = c.in-Absent.keys2
-
 pub returns-in-Given : goal.returns-in-Given
 returns-in-Given c = at-given _ _ c.in-Given.is
 

@@ -5,9 +5,6 @@ use Rattle.solver.specs.Checked.{shaped_facts, few_octets, entering}
 use Rattle.solver.specs.Judge.{tabled_is, judge_count, judge_shape, judge_entry, judge_room, judge_taken, rooms_tell}
 use Rattle.solver.proofs.judge.Goals as goal
 
-pub enum_told-1 : goal.enum_told-1
-enum_told-1 c = c.in-BadCount.keys1
-
 pub is_shaped-requires : goal.is_shaped-requires
 is_shaped-requires c = few_octets (tabled_is _ _ _ (sym c.params.ensures.is ∙ c.in-Found.is) c.if_given-h.ensures)
 
