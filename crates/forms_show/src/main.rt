@@ -1,9 +1,25 @@
 // Reads lines of a name and the bytes of a form in hexadecimal, and writes after each line what is shown of the form, quoted by `> `.
 #![tactic(auto)]
 
-ghost use Rattle.std.specs.Prelude.{◌≤◌, ◌<◌, length};
+ghost use Rattle.std.specs.Prelude.{◌≤◌, ◌<◌, length, IfOk};
 
-use libc::{STDIN_FILENO, STDOUT_FILENO};
+use std::io;
+use std::io::Read;
+
+// Reads until the room is full or the input ends, and answers how many bytes stand at the room's front.
+fn read_full(input: &mut impl Read, room: &mut [u8]) -> io::Result<usize>
+    ensures { IfOk result (λ n. n ≤ length room.new) }
+{
+    let mut done = 0;
+    while done < room.len() {
+        let n = input.read(&mut room[done..])?;
+        if n == 0 {
+            break;
+        }
+        done += n;
+    }
+    Ok(done)
+}
 
 fn nibble(c: u8) -> u8
     ensures { result < 16 }
@@ -67,34 +83,36 @@ fn unhex(digits: &[u8], out: &mut [u8]) -> usize
     k
 }
 
-fn put_line(line: &[u8]) {
-    io::write_all(STDOUT_FILENO, line);
-    io::write_all(STDOUT_FILENO, b"\n");
+fn put_line(rt: &impl Print, line: &[u8]) -> io::Result<()> {
+    rt.write_all(line)?;
+    rt.write_all(b"\n")
 }
 
 // Each line of a text, quoted.
-fn put_quoted(text: &[u8]) {
+fn put_quoted(rt: &impl Print, text: &[u8]) -> io::Result<()> {
     let mut at = 0;
     while at < text.len() {
         let end = line_end(text, at);
-        put_quote(&text[at..end]);
+        put_quote(rt, &text[at..end])?;
         at = end + 1;
     }
+    Ok(())
 }
 
-fn put_quote(line: &[u8]) {
-    io::write_all(STDOUT_FILENO, b"> ");
-    put_line(line);
+fn put_quote(rt: &impl Print, line: &[u8]) -> io::Result<()> {
+    rt.write_all(b"> ")?;
+    put_line(rt, line)
 }
 
-fn put_first(text: &[u8], n: usize) {
+fn put_first(rt: &impl Print, text: &[u8], n: usize) -> io::Result<()> {
     if n <= text.len() {
-        put_quoted(&text[0..n]);
+        put_quoted(rt, &text[0..n])?;
     }
+    Ok(())
 }
 
-fn show_line(line: &[u8]) {
-    put_line(line);
+fn show_line(rt: &impl Print, line: &[u8]) -> io::Result<()> {
+    put_line(rt, line)?;
     let from = last_word(line);
     let mut form = [0u8; 512];
     let n = unhex(&line[from..], &mut form);
@@ -102,20 +120,22 @@ fn show_line(line: &[u8]) {
     let mut order = [0usize; 256];
     let mut out = [0u8; 4096];
     let k = shown::show(&form[0..n], &mut list, &mut order, &mut out);
-    put_first(&out, k);
+    put_first(rt, &out, k)
 }
 
-fn show_all(text: &[u8]) {
+fn show_all(rt: &impl Print, text: &[u8]) -> io::Result<()> {
     let mut at = 0;
     while at < text.len() {
         let end = line_end(text, at);
-        show_line(&text[at..end]);
+        show_line(rt, &text[at..end])?;
         at = end + 1;
     }
+    Ok(())
 }
 
-fn main() {
+fn main(rt: HostRuntime) -> io::Result<()> {
     let mut text = [0u8; 8192];
-    let n = io::read_full(STDIN_FILENO, &mut text);
-    show_all(&text[..n]);
+    let mut input = rt.reader();
+    let n = read_full(&mut input, &mut text)?;
+    show_all(&rt, &text[..n])
 }

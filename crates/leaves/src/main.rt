@@ -4,8 +4,10 @@
 
 ghost use Rattle.std.specs.Prelude.{◌≡◌, ◌≤◌, length};
 
+use itoa::Buffer;
 use octet::{Octet, Quotient};
 use params::{Parameters, Sizes};
+use std::io;
 
 // A line of text as it grows: the first `used` bytes of a buffer. Each function answers how many are in use after it; what finds no
 // room is dropped.
@@ -30,9 +32,9 @@ fn put_text(line: &mut Line, used: usize, text: &[u8]) -> usize {
 }
 
 fn put_decimal(line: &mut Line, used: usize, n: usize) -> usize {
-    let mut digits = [0u8; 20];
-    let k = io::decimal(n as u64, &mut digits);
-    put_text(line, used, &digits[..k])
+    let mut digits = Buffer::new();
+    let text = digits.format(n);
+    put_text(line, used, text.as_bytes())
 }
 
 // A space, and n in decimal.
@@ -58,29 +60,30 @@ fn head(line: &mut Line, name: &[u8], n: usize) -> usize {
     put_number(line, end, n)
 }
 
-fn write_first(bytes: &[u8], n: usize) {
+fn write_first(rt: &impl Print, bytes: &[u8], n: usize) -> io::Result<()> {
     if n <= bytes.len() {
-        io::write_all(libc::STDOUT_FILENO, &bytes[0..n]);
+        rt.write_all(&bytes[0..n])?;
     }
+    Ok(())
 }
 
 // Ends the line and writes it to standard output.
-fn write(line: &mut Line, used: usize) {
+fn write(rt: &impl Print, line: &mut Line, used: usize) -> io::Result<()> {
     let end = put(line, used, b'\n');
-    write_first(line, end);
+    write_first(rt, line, end)
 }
 
 // Every product and every quotient of two octets, a line for each octet.
 
 // x times each octet.
-fn print_products(line: &mut Line, x: u8) {
+fn print_products(rt: &impl Print, line: &mut Line, x: u8) -> io::Result<()> {
     let mut end = head(line, b"mul", x as usize);
     end = put(line, end, b':');
     for y in 0..=255 {
         let product = Octet { value: x }.mul(Octet { value: y });
         end = put_hex(line, end, product.value);
     }
-    write(line, end);
+    write(rt, line, end)
 }
 
 fn put_quotient(line: &mut Line, used: usize, q: Quotient) -> usize {
@@ -91,21 +94,22 @@ fn put_quotient(line: &mut Line, used: usize, q: Quotient) -> usize {
 }
 
 // Each octet over x.
-fn print_quotients(line: &mut Line, x: u8) {
+fn print_quotients(rt: &impl Print, line: &mut Line, x: u8) -> io::Result<()> {
     let mut end = head(line, b"div", x as usize);
     end = put(line, end, b':');
     for y in 0..=255 {
         let q = Octet { value: y }.div(Octet { value: x });
         end = put_quotient(line, end, q);
     }
-    write(line, end);
+    write(rt, line, end)
 }
 
-fn print_octets(line: &mut Line) {
+fn print_octets(rt: &impl Print, line: &mut Line) -> io::Result<()> {
     for x in 0..=255 {
-        print_products(line, x);
-        print_quotients(line, x);
+        print_products(rt, line, x)?;
+        print_quotients(rt, line, x)?;
     }
+    Ok(())
 }
 
 // The row operations at eight lengths and with seven scalars, always on the same two rows.
@@ -178,61 +182,61 @@ fn put_row(line: &mut Line, used: usize, row: &Row, n: usize) -> usize
     end
 }
 
-fn print_added(line: &mut Line, n: usize)
+fn print_added(rt: &impl Print, line: &mut Line, n: usize) -> io::Result<()>
     requires { n ≤ 1280 }
 {
     let mut end = head(line, b"add", n);
     end = put_row(line, end, &added(n), n);
-    write(line, end);
+    write(rt, line, end)
 }
 
-fn print_scaled(line: &mut Line, n: usize, scalar: u8)
+fn print_scaled(rt: &impl Print, line: &mut Line, n: usize, scalar: u8) -> io::Result<()>
     requires { n ≤ 1280 }
 {
     let mut end = head(line, b"scale", n);
     end = put_number(line, end, scalar as usize);
     end = put_row(line, end, &scaled(n, scalar), n);
-    write(line, end);
+    write(rt, line, end)
 }
 
-fn print_multiple_added(line: &mut Line, n: usize, scalar: u8)
+fn print_multiple_added(rt: &impl Print, line: &mut Line, n: usize, scalar: u8) -> io::Result<()>
     requires { n ≤ 1280 }
 {
     let mut end = head(line, b"fma", n);
     end = put_number(line, end, scalar as usize);
     end = put_row(line, end, &multiple_added(n, scalar), n);
-    write(line, end);
+    write(rt, line, end)
 }
 
-fn print_both(line: &mut Line, n: usize, scalar: u8)
+fn print_both(rt: &impl Print, line: &mut Line, n: usize, scalar: u8) -> io::Result<()>
     requires { n ≤ 1280 }
 {
-    print_scaled(line, n, scalar);
-    print_multiple_added(line, n, scalar);
+    print_scaled(rt, line, n, scalar)?;
+    print_multiple_added(rt, line, n, scalar)
 }
 
-fn print_at(line: &mut Line, n: usize)
+fn print_at(rt: &impl Print, line: &mut Line, n: usize) -> io::Result<()>
     requires { n ≤ 1280 }
 {
-    print_added(line, n);
-    print_both(line, n, 0);
-    print_both(line, n, 1);
-    print_both(line, n, 2);
-    print_both(line, n, 3);
-    print_both(line, n, 29);
-    print_both(line, n, 142);
-    print_both(line, n, 255);
+    print_added(rt, line, n)?;
+    print_both(rt, line, n, 0)?;
+    print_both(rt, line, n, 1)?;
+    print_both(rt, line, n, 2)?;
+    print_both(rt, line, n, 3)?;
+    print_both(rt, line, n, 29)?;
+    print_both(rt, line, n, 142)?;
+    print_both(rt, line, n, 255)
 }
 
-fn print_rows(line: &mut Line) {
-    print_at(line, 0);
-    print_at(line, 1);
-    print_at(line, 7);
-    print_at(line, 8);
-    print_at(line, 9);
-    print_at(line, 255);
-    print_at(line, 256);
-    print_at(line, 1280);
+fn print_rows(rt: &impl Print, line: &mut Line) -> io::Result<()> {
+    print_at(rt, line, 0)?;
+    print_at(rt, line, 1)?;
+    print_at(rt, line, 7)?;
+    print_at(rt, line, 8)?;
+    print_at(rt, line, 9)?;
+    print_at(rt, line, 255)?;
+    print_at(rt, line, 256)?;
+    print_at(rt, line, 1280)
 }
 
 // The parameters at every count from 0 to 230, at the last of the table and past it.
@@ -254,24 +258,24 @@ fn put_parameters(line: &mut Line, used: usize, p: Parameters) -> usize {
     }
 }
 
-fn print_sizes(line: &mut Line, k: usize) {
+fn print_sizes(rt: &impl Print, line: &mut Line, k: usize) -> io::Result<()> {
     let mut end = head(line, b"params", k);
     end = put(line, end, b':');
     end = put_parameters(line, end, params::params(k));
-    write(line, end);
+    write(rt, line, end)
 }
 
-fn print_params(line: &mut Line) {
+fn print_params(rt: &impl Print, line: &mut Line) -> io::Result<()> {
     for k in 0..231 {
-        print_sizes(line, k);
+        print_sizes(rt, line, k)?;
     }
-    print_sizes(line, 56403);
-    print_sizes(line, 56404);
+    print_sizes(rt, line, 56403)?;
+    print_sizes(rt, line, 56404)
 }
 
-fn main() {
-    let mut line = io::buffer();
-    print_octets(&mut line);
-    print_rows(&mut line);
-    print_params(&mut line);
+fn main(rt: HostRuntime) -> io::Result<()> {
+    let mut line = [0u8; 4096];
+    print_octets(&rt, &mut line)?;
+    print_rows(&rt, &mut line)?;
+    print_params(&rt, &mut line)
 }

@@ -3,16 +3,16 @@
 
 ghost use Rattle.std.specs.Prelude.{◌≤◌, ◌<◌, length};
 
-use libc::STDOUT_FILENO;
+use std::io;
 
-fn put(text: &[u8]) {
-    io::write_all(STDOUT_FILENO, text);
+fn put(rt: &impl Print, text: &[u8]) -> io::Result<()> {
+    rt.write_all(text)
 }
 
 // A number and what it counts.
-fn put_count(n: usize, text: &[u8]) {
-    io::print_decimal(STDOUT_FILENO, n as u64);
-    put(text);
+fn put_count(rt: &impl Print, n: usize, text: &[u8]) -> io::Result<()> {
+    rt.print(n)?;
+    put(rt, text)
 }
 
 // Byte i of the form of 16,380 operations, all alike, with no order: 65,534 bytes.
@@ -68,9 +68,9 @@ fn same(a: &[u8], b: &[u8]) -> bool {
 }
 
 // Each line of a text, after how often it stands in a row.
-fn put_runs(text: &[u8]) {
+fn put_runs(rt: &impl Print, text: &[u8]) -> io::Result<()> {
     if text.len() == 0 {
-        return;
+        return Ok(());
     }
     let mut from = 0;
     let mut at = 0;
@@ -81,47 +81,48 @@ fn put_runs(text: &[u8]) {
         if same(&text[from..first], &text[at..end]) {
             times += 1;
         } else {
-            put_count(times, b" ");
-            put(&text[from..first]);
+            put_count(rt, times, b" ")?;
+            put(rt, &text[from..first])?;
             from = at;
             times = 1;
         }
         at = end;
     }
     let first = line_end(text, from);
-    put_count(times, b" ");
-    put(&text[from..first]);
+    put_count(rt, times, b" ")?;
+    put(rt, &text[from..first])
 }
 
-fn show_once(form: &[u8]) {
+fn show_once(rt: &impl Print, form: &[u8]) -> io::Result<()> {
     let mut list = [0u64; 16384];
     let mut order = [0usize; 256];
     let mut out = [0u8; 270000];
     let k = shown::show(form, &mut list, &mut order, &mut out);
-    put_count(k, b" bytes\n");
-    put_front(&out, k);
+    put_count(rt, k, b" bytes\n")?;
+    put_front(rt, &out, k)
 }
 
 // The first n bytes of a text.
-fn put_front(text: &[u8], n: usize) {
+fn put_front(rt: &impl Print, text: &[u8], n: usize) -> io::Result<()> {
     if n <= text.len() {
-        put_runs(&text[0..n]);
+        put_runs(rt, &text[0..n])?;
     }
+    Ok(())
 }
 
-fn show_zeros() {
+fn show_zeros(rt: &impl Print) -> io::Result<()> {
     let form = [0u8; 65537];
-    show_once(&form[0..65536]);
-    show_once(&form);
+    show_once(rt, &form[0..65536])?;
+    show_once(rt, &form)
 }
 
-fn show_long() {
+fn show_long(rt: &impl Print) -> io::Result<()> {
     let mut form = [0u8; 65534];
     fill_long(&mut form);
-    show_once(&form);
+    show_once(rt, &form)
 }
 
-fn main() {
-    show_zeros();
-    show_long();
+fn main(rt: HostRuntime) -> io::Result<()> {
+    show_zeros(&rt)?;
+    show_long(&rt)
 }

@@ -2,17 +2,17 @@
 // sevens before.
 #![tactic(auto)]
 
-use libc::STDOUT_FILENO;
 use oplist::Op;
+use std::io;
 use stored::{Reading, Written};
 
-fn put(text: &[u8]) {
-    io::write_all(STDOUT_FILENO, text);
+fn put(rt: &impl Print, text: &[u8]) -> io::Result<()> {
+    rt.write_all(text)
 }
 
-fn put_number(x: u64) {
-    put(b" ");
-    io::print_decimal(STDOUT_FILENO, x);
+fn put_number(rt: &impl Print, x: u64) -> io::Result<()> {
+    put(rt, b" ")?;
+    rt.print(x)
 }
 
 fn wide(x: usize) -> u64 {
@@ -23,28 +23,31 @@ fn wide8(x: u8) -> u64 {
     x as u64
 }
 
-fn put_words(list: &[u64]) {
+fn put_words(rt: &impl Print, list: &[u64]) -> io::Result<()> {
     let mut k = 0;
     while k < list.len() {
-        put_number(list[k]);
+        put_number(rt, list[k])?;
         k += 1;
     }
+    Ok(())
 }
 
-fn put_entries(order: &[usize]) {
+fn put_entries(rt: &impl Print, order: &[usize]) -> io::Result<()> {
     let mut k = 0;
     while k < order.len() {
-        put_number(wide(order[k]));
+        put_number(rt, wide(order[k]))?;
         k += 1;
     }
+    Ok(())
 }
 
-fn put_bytes(out: &[u8]) {
+fn put_bytes(rt: &impl Print, out: &[u8]) -> io::Result<()> {
     let mut k = 0;
     while k < out.len() {
-        put_number(wide8(out[k]));
+        put_number(rt, wide8(out[k]))?;
         k += 1;
     }
+    Ok(())
 }
 
 fn number_of(answer: Reading) -> u64 {
@@ -71,73 +74,101 @@ fn number_written(answer: Written) -> u64 {
     }
 }
 
-fn read_once(form: &[u8], list: &mut [u64], order: &mut [usize]) {
+fn read_once(
+    rt: &impl Print,
+    form: &[u8],
+    list: &mut [u64],
+    order: &mut [usize],
+) -> io::Result<()> {
     let answer = stored::read(form, list, order);
-    put(b"read");
-    put_number(number_of(answer));
-    put(b" list");
-    put_words(list);
-    put(b" order");
-    put_entries(order);
-    put(b"\n");
+    put(rt, b"read")?;
+    put_number(rt, number_of(answer))?;
+    put(rt, b" list")?;
+    put_words(rt, list)?;
+    put(rt, b" order")?;
+    put_entries(rt, order)?;
+    put(rt, b"\n")
 }
 
-fn read_with_room(form: &[u8]) {
+fn read_with_room(rt: &impl Print, form: &[u8]) -> io::Result<()> {
     let mut list = [7u64; 3];
     let mut order = [7usize; 4];
-    read_once(form, &mut list, &mut order);
+    read_once(rt, form, &mut list, &mut order)
 }
 
-fn read_short_list(form: &[u8]) {
+fn read_short_list(rt: &impl Print, form: &[u8]) -> io::Result<()> {
     let mut list = [7u64; 1];
     let mut order = [7usize; 4];
-    read_once(form, &mut list, &mut order);
+    read_once(rt, form, &mut list, &mut order)
 }
 
-fn read_short_order(form: &[u8]) {
+fn read_short_order(rt: &impl Print, form: &[u8]) -> io::Result<()> {
     let mut list = [7u64; 3];
     let mut order = [7usize; 1];
-    read_once(form, &mut list, &mut order);
+    read_once(rt, form, &mut list, &mut order)
 }
 
-fn read_all() {
+fn read_all(rt: &impl Print) -> io::Result<()> {
     // three rows, two columns, two operations, an order
     read_with_room(
+        rt,
         b"\x00\x00\x00\x14\x01\x00\x03\x00\x02\x00\x00\x00\x02\x01\x00\x01\x00\x02\x02\x00\x8e\x01\x02\x00",
-    );
+    )?;
     // the same without an order
     read_with_room(
+        rt,
         b"\x00\x00\x00\x12\x01\x00\x03\x00\x02\x00\x00\x00\x02\x01\x00\x01\x00\x02\x02\x00\x8e\x00",
-    );
+    )?;
     // no columns
-    read_with_room(b"\x00\x00\x00\x0a\x01\x00\x03\x00\x00\x00\x00\x00\x00\x00");
+    read_with_room(
+        rt,
+        b"\x00\x00\x00\x0a\x01\x00\x03\x00\x00\x00\x00\x00\x00\x00",
+    )?;
     // no room for two operations
     read_short_list(
+        rt,
         b"\x00\x00\x00\x14\x01\x00\x03\x00\x02\x00\x00\x00\x02\x01\x00\x01\x00\x02\x02\x00\x8e\x01\x02\x00",
-    );
+    )?;
     // no room for two entries
     read_short_order(
+        rt,
         b"\x00\x00\x00\x14\x01\x00\x03\x00\x02\x00\x00\x00\x02\x01\x00\x01\x00\x02\x02\x00\x8e\x01\x02\x00",
-    );
+    )?;
     // an unknown kind
-    read_with_room(b"\x00\x00\x00\x0e\x01\x00\x03\x00\x02\x00\x00\x00\x01\x04\x00\x01\x09\x00");
+    read_with_room(
+        rt,
+        b"\x00\x00\x00\x0e\x01\x00\x03\x00\x02\x00\x00\x00\x01\x04\x00\x01\x09\x00",
+    )?;
     // an entry twice
-    read_with_room(b"\x00\x00\x00\x0c\x01\x00\x03\x00\x02\x00\x00\x00\x00\x01\x02\x02");
+    read_with_room(
+        rt,
+        b"\x00\x00\x00\x0c\x01\x00\x03\x00\x02\x00\x00\x00\x00\x01\x02\x02",
+    )?;
     // a flag that is neither
-    read_with_room(b"\x00\x00\x00\x0e\x01\x00\x03\x00\x02\x00\x00\x00\x01\x01\x00\x01\x00\x02");
+    read_with_room(
+        rt,
+        b"\x00\x00\x00\x0e\x01\x00\x03\x00\x02\x00\x00\x00\x01\x01\x00\x01\x00\x02",
+    )
 }
 
-fn write_once(m: usize, l: usize, list: &[u64], ordered: bool, order: &[usize]) {
+fn write_once(
+    rt: &impl Print,
+    m: usize,
+    l: usize,
+    list: &[u64],
+    ordered: bool,
+    order: &[usize],
+) -> io::Result<()> {
     let mut out = [7u8; 24];
     let answer = stored::write(m, l, list, ordered, order, &mut out);
-    put(b"write");
-    put_number(number_written(answer));
-    put(b" out");
-    put_bytes(&out);
-    put(b"\n");
+    put(rt, b"write")?;
+    put_number(rt, number_written(answer))?;
+    put(rt, b" out")?;
+    put_bytes(rt, &out)?;
+    put(rt, b"\n")
 }
 
-fn write_all() {
+fn write_all(rt: &impl Print) -> io::Result<()> {
     let list = [
         oplist::pack(Op::AddAssign(0, 1)),
         oplist::pack(Op::MulAssign(2, 142)),
@@ -151,17 +182,17 @@ fn write_all() {
     let order = [2usize, 0];
     let twice = [2usize, 2];
     let none = [0usize; 0];
-    write_once(3, 2, &list, true, &order);
-    write_once(3, 2, &list, false, &none);
-    write_once(257, 2, &list, false, &none);
-    write_once(3, 2, &three, false, &none);
-    write_once(3, 2, &three, true, &order);
-    write_once(3, 2, &unknown, false, &none);
-    write_once(3, 2, &list, true, &twice);
-    write_once(3, 2, &list, true, &none);
+    write_once(rt, 3, 2, &list, true, &order)?;
+    write_once(rt, 3, 2, &list, false, &none)?;
+    write_once(rt, 257, 2, &list, false, &none)?;
+    write_once(rt, 3, 2, &three, false, &none)?;
+    write_once(rt, 3, 2, &three, true, &order)?;
+    write_once(rt, 3, 2, &unknown, false, &none)?;
+    write_once(rt, 3, 2, &list, true, &twice)?;
+    write_once(rt, 3, 2, &list, true, &none)
 }
 
-fn main() {
-    read_all();
-    write_all();
+fn main(rt: HostRuntime) -> io::Result<()> {
+    read_all(&rt)?;
+    write_all(&rt)
 }
