@@ -51,7 +51,7 @@ use Rattle.shown.specs.Filled.{screen, showing, same_screen}
 use Rattle.phases.specs.System.{Shape, range, combined}
 use Rattle.phases.specs.One.{phase_one}
 use Rattle.answers.specs.declared.Answer.TheVariants.{BadCount, BadShape}
-use Rattle.call.specs.Call.{Octets, Buffers, Outcome, outcome, shaped, bitwise, entered, roomy_for, shape_of, told, ended, checked, call_of}
+use Rattle.call.specs.Call.{Octets, Buffers, outcome, shaped, bitwise, entered, roomy_for, shape_of, told, ended, checked, call_of}
 use Rattle.phases.specs.Run.{Run, whole, solved, no_pivot, singular, defined, ending, answer, Answer, Solved, ListFull, NoPivot, Singular, no_counts}
 
 abbrev pub ten : Shape

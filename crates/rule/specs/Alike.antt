@@ -5,7 +5,7 @@
 --   ones_alike, count_alike   then a row of E has the same ones
 --   permitted_alike    and the same choices are permitted
 -- Assumes nothing.
-use Rattle.std.specs.Prelude.{◌≡◌, refl, ◌⊎◌, List, [], ◌∷◌, Bool, ℕ, ◌≤◌, ◌<◌, length}
+use Rattle.std.specs.Prelude.{◌≡◌, refl, List, [], ◌∷◌, Bool, ℕ, ◌≤◌, ◌<◌, length}
 use Rattle.std.proofs.Common.{sym, ap, ap₂, subst, ◌∙◌, inl, inr, ⊎_elim}
 use Rattle.rule.specs.Lists.{In, keep, filter, lesser, least_pos}
 use Rattle.rule.specs.Permitted.{ones, count, Joined, Reach, here, along, IsComponent, InLargest, Permitted}

@@ -4,7 +4,7 @@
 --   turns_end                       the end of the loop
 --   put_last                        the first of the reversed list is the last of the list
 -- Assumes nothing.
-use Rattle.std.specs.Prelude.{◌≡◌, refl, List, [], ◌∷◌, ◌++◌, Bool, true, false, cond, ℕ, zero, suc, ◌+◌, ◌-◌, ◌≤◌, ◌<◌, length, get_or, set, take, drop}
+use Rattle.std.specs.Prelude.{◌≡◌, refl, List, [], ◌∷◌, ◌++◌, Bool, true, false, cond, ℕ, zero, suc, ◌+◌, ◌≤◌, ◌<◌, length, get_or, set, take, drop}
 use Rattle.std.proofs.Common.{sym, ap, ap₂, subst, ◌∙◌, append_assoc, append-nil, arith, length-drop, take-append-drop, drop-set-lt, take-suc, take-suc-set, get_or-drop}
 use Rattle.std.proofs.Math.Seq.{slice, slice-cons, slice_empty, take-set-lt}
 use Rattle.std.proofs.lemmas.List.{drop-set-add, take-set-le}

@@ -23,13 +23,13 @@ use Rattle.algebra.specs.Flat.{Bytes}
 use Rattle.phases.specs.System.{Shape as Defined, combined}
 use Rattle.phases.specs.Run.{Run, defined, Answer as Told, answer}
 use Rattle.phases.specs.Fit.{Fit}
-use Rattle.answers.specs.declared.Answer.TheVariants.{BadCount, BadShape, BadEntry, NoRoom}
+use Rattle.answers.specs.declared.Answer.TheVariants.{BadShape, BadEntry, NoRoom}
 use Rattle.answers.specs.Answers.{number_of}
 use Rattle.call.specs.declared.Shape.{Shape}
 use Rattle.call.specs.Over.{at-over}
 use Rattle.call.specs.Call.{Octets, octets_in, rows_in, Buffers, Outcome, outcome, shaped, entered, roomy_for, ended, shape_of, told, checked, counted, call_of}
 use Rattle.call.specs.Called.{answer-number}
-use Rattle.ending.specs.Ran.{as_shape, Posed}
+use Rattle.ending.specs.Ran.{Posed}
 use Rattle.ending.specs.Told.{posed_fit}
 use Rattle.running.specs.Lent.{Roomed}
 use Rattle.solver.specs.Checked.{Tabled, Shaped, shaped_facts, tabled_given, tabled_none, posed_is, roomed_is, at-run, at_table}

@@ -9,7 +9,7 @@
 --   one_form        two accepted forms that say the same are the same
 --   written_read    writing what was read gives the same bytes
 -- Assumes nothing.
-use Rattle.std.specs.Prelude.{ℕ, zero, suc, ◌+◌, ◌-◌, ◌*◌, ◌<◌, ◌≤◌, ◌≡◌, Bool, true, false, ◌&&◌, eqb}
+use Rattle.std.specs.Prelude.{ℕ, zero, suc, ◌+◌, ◌*◌, ◌<◌, ◌≤◌, ◌≡◌, Bool, true, false, ◌&&◌, eqb}
 use Rattle.std.proofs.Math.Path.{refl, sym, ap, ap₂}
 use Rattle.std.proofs.Common.{◌∙◌, eqb-true, get_or-drop, drop-drop}
 use mathlib.Core.List.{List, [], ◌∷◌, map}
@@ -32,7 +32,7 @@ use Rattle.stored.specs.Form.{op_bytes, ops_bytes, order_bytes, order_size, form
 use Rattle.stored.specs.Answers.{judged, got, read_of, put_in, write_of}
 use Rattle.stored.specs.Scan.{length-words_at}
 use Rattle.stored.specs.Formed.{Formed}
-use Rattle.stored.specs.Accepted.{Accepted, Kept, Accepts, length-order_in, accepted_judged, accepts_judged}
+use Rattle.stored.specs.Accepted.{Accepted, Accepts, length-order_in, accepted_judged, accepts_judged}
 use Rattle.stored.specs.Laid.{head_of, length-laid, laid_form}
 
 abbrev pub entries : Bool → List ℕ → List ℕ

@@ -23,7 +23,7 @@ use Rattle.oplist.specs.declared.Op.{Op}
 use Rattle.oplist.specs.declared.Op.TheVariants.{AddAssign, MulAssign, FMA}
 use Rattle.oplist.specs.Ops.{dest, Each}
 use Rattle.algebra.specs.Sums.{pick}
-use Rattle.algebra.specs.Rows.{value, step, run, run-append}
+use Rattle.algebra.specs.Rows.{value, run, run-append}
 use Rattle.algebra.specs.Flat.{row, view, zip, written, act, acts, length-zip, get_d_zip, fits}
 use Rattle.symbol_slab.specs.Placed.{Placed, add_at, fma_at, scale_at, span_part}
 

@@ -27,7 +27,7 @@ use Rattle.systems.specs.declared.told.Lines.TheVariants as lines
 use Rattle.systems.specs.declared.told.Read.{Read}
 use Rattle.systems.specs.declared.told.Read.TheVariants.{Case, Malformed, End}
 use Rattle.systems.specs.Text.{end_of, lines_in, starts_with, lines_at, lines_over, line_long}
-use Rattle.systems.specs.Lined.{Buffers, buffers, turned, head_of, line_of}
+use Rattle.systems.specs.Lined.{Buffers, turned, head_of, line_of}
 
 -- "case "
 abbrev pub case_word : List ℕ

@@ -1,7 +1,5 @@
 -- `rules` meets its contract. Assumes nothing.
 use mathlib.Core.Path.{ap}
-use native.Mathlib.Omega.{arith}
-use borrow.Author.Rules.{rules}
 use borrow.Author.Tests.{le-leb, lt-leb}
 use Rattle.answers.specs.declared.Need.TheVariants.{Entries}
 use Rattle.answers.specs.Rooms.{need_of, need_met}

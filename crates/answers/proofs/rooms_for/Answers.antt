@@ -1,6 +1,5 @@
 -- `rooms_for` meets its contract. Assumes nothing.
 use native.Mathlib.Omega.{arith}
-use borrow.Author.Rules.{rules}
 use Rattle.answers.specs.Rooms.{small_product}
 use Rattle.answers.proofs.rooms_for.Goals as goal
 

@@ -1,10 +1,7 @@
 -- `choice::biggest` meets its contract. Assumes nothing.
-use Rattle.choice.specs.Sizes.{Growing, grow_start, grow_first, grow_next, grow_stay, grow_end}
+use Rattle.choice.specs.Sizes.{Growing}
 use Rattle.figures.specs.Told.{told}
-use mathlib.Core.Logic.{⊎_elim}
 use Prim.Native.Nat.{◌-◌}
-use native.Mathlib.Omega.{arith}
-use borrow.Author.Rules.{rules}
 use Rattle.choice.proofs.biggest.Given as goal
 
 abbrev pub invariant-loop-c : goal.invariant-loop-c

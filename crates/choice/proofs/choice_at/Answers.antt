@@ -1,6 +1,5 @@
 -- `choice::choice_at` meets its contract. Assumes nothing.
 use Rattle.choice.specs.Choose.{at_within, at_past}
-use borrow.Author.Rules.{rules}
 use Rattle.choice.proofs.choice_at.Goals as goal
 
 pub returns-then-k-e : goal.returns-then-k-e

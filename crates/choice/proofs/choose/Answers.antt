@@ -2,7 +2,6 @@
 use Rattle.choice.specs.Choose.{some_with, chosen_none, chosen_empty, chosen_single, chosen_pair, chosen_more}
 use Rattle.figures.specs.Told.{told}
 use Rattle.grid.specs.Grid.{bit}
-use borrow.Author.Rules.{rules}
 use Rattle.choice.proofs.choose.Goals as goal
 
 pub returns-then-r-eq0 : goal.returns-then-r-eq0
@@ -23,11 +22,11 @@ returns-then-r-eq2 c =
 
 pub least_degree_of-requires : goal.least_degree_of-requires
 least_degree_of-requires c =
-      record {
-        e_in_bounds = some_with (bit c.args.l c.args.bits.now) (told c.args.deg.now) c.args.v.now c.args.e.now c.args.s.now (told c.args.labels.now) c.args.n c.requires.r_value c.if-r-eq0.false c.requires.ready.figures;
-        under = c.requires.ready.figures.under;
-        under_2 = c.requires.under;
-      }
+    record {
+      e_in_bounds = some_with (bit c.args.l c.args.bits.now) (told c.args.deg.now) c.args.v.now c.args.e.now c.args.s.now (told c.args.labels.now) c.args.n c.requires.r_value c.if-r-eq0.false c.requires.ready.figures;
+      under = c.requires.ready.figures.under;
+      under_2 = c.requires.under;
+    }
 
 pub returns : goal.returns
 returns c =

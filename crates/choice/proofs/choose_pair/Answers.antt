@@ -2,16 +2,15 @@
 use Rattle.choice.specs.Choose.{pair_none, pair_some}
 use Rattle.figures.specs.Told.{told}
 use Rattle.grid.specs.Grid.{bit}
-use borrow.Author.Rules.{rules}
 use Rattle.choice.proofs.choose_pair.Goals as goal
 
 pub biggest-b-requires : goal.biggest-b-requires
 biggest-b-requires c =
-      record {
-        under = c.requires.has_label;
-        labelled = c.requires.fresh;
-        n_nonzero = (c.requires.some_label, c.requires.fits);
-      }
+    record {
+      under = c.requires.has_label;
+      labelled = c.requires.fresh;
+      n_nonzero = (c.requires.some_label, c.requires.fits);
+    }
 
 pub labelled-k-requires : goal.labelled-k-requires
 labelled-k-requires c = c.requires.has_label
@@ -22,11 +21,11 @@ returns-then-v-k c =
 
 pub at_node-p-requires : goal.at_node-p-requires
 at_node-p-requires c =
-      record {
-        q_lt_l = c.requires.columns.at _ c.if-v-k.false;
-        rows = c.requires.rows;
-        under = c.requires.figures.under;
-      }
+    record {
+      q_lt_l = c.requires.columns.at _ c.if-v-k.false;
+      rows = c.requires.rows;
+      under = c.requires.figures.under;
+    }
 
 pub returns : goal.returns
 returns c =

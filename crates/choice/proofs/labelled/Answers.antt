@@ -1,12 +1,8 @@
 -- `choice::labelled` meets its contract. Assumes nothing.
-use Rattle.columns.specs.First.{Seeking, seek_start, seek_next, seek_found, seek_end}
-use Rattle.figures.specs.Told.{told}
+use Rattle.columns.specs.First.{seek_start, seek_next, seek_found, seek_end}
 use borrow.Author.Tests.{eq-eqb, ne_eqb}
-use lib.ListN.{length}
-use lib.Dec.{eqb}
 use Prim.Native.Nat.{◌-◌}
 use native.Mathlib.Omega.{arith}
-use borrow.Author.Rules.{rules}
 use Rattle.choice.proofs.labelled.Goals as goal
 
 pub loop-k-init : goal.loop-k-init

@@ -1,10 +1,7 @@
 -- `choice::sizes_of` meets its contract. Assumes nothing.
-use Rattle.choice.specs.Sizes.{Sizing, size-start, size-next, size_fits, size_end}
-use Rattle.figures.specs.Told.{told}
-use lib.ListN.{length}
+use Rattle.choice.specs.Sizes.{size-start, size-next, size_fits, size_end}
 use Prim.Native.Nat.{◌-◌}
 use native.Mathlib.Omega.{arith}
-use borrow.Author.Rules.{rules}
 use Rattle.choice.proofs.sizes_of.Goals as goal
 
 pub loop-k-init : goal.loop-k-init

@@ -1,10 +1,8 @@
 -- `choice::sizes_of` meets its contract. Assumes nothing.
-use Rattle.choice.specs.Sizes.{Sizing, size-start, size-next, size_fits, size_end}
+use Rattle.choice.specs.Sizes.{Sizing}
 use Rattle.figures.specs.Told.{told}
 use lib.ListN.{length}
 use Prim.Native.Nat.{◌-◌}
-use native.Mathlib.Omega.{arith}
-use borrow.Author.Rules.{rules}
 use Rattle.choice.proofs.sizes_of.Given as goal
 
 abbrev pub invariant-loop-k : goal.invariant-loop-k

@@ -1,12 +1,7 @@
 -- `clearing::clear_octets` meets its contract: what is left to record of the octet rows. Assumes nothing.
-use mathlib.Core.Logic.{⊎_elim}
-use Prim.Native.Nat.{◌+◌, ◌-◌, ◌*◌}
-use lib.ListN.{get_or}
-use native.Mathlib.Omega.{arith}
-use borrow.Author.Rules.{rules}
-use Rattle.oplist.specs.Multiple.{small_multiple}
+use Prim.Native.Nat.{◌-◌}
 use Rattle.tally.specs.Book.{book}
-use Rattle.clearing.specs.Clear.{Multiples, octet_start, octet_within, octet_none, octet_next, octet_end}
+use Rattle.clearing.specs.Clear.{Multiples}
 use Rattle.clearing.proofs.clear_octets.Given as goal
 
 abbrev pub invariant-loop-j : goal.invariant-loop-j

@@ -1,12 +1,7 @@
 -- `clearing::clear_rows` meets its contract: what is left to record of ys. Assumes nothing.
 use mathlib.Core.Path.{sym, ◌∙◌}
-use mathlib.Core.Logic.{⊎_elim}
 use Prim.Native.Nat.{◌-◌}
-use lib.ListN.{length}
-use borrow.Author.Rules.{rules}
-use Rattle.loops.specs.Entry.{entry_at}
-use Rattle.tally.specs.Book.{book}
-use Rattle.clearing.specs.Clear.{Clearing, clear-start, clear_none, clear-one, clear_end, bit-one, bit-none}
+use Rattle.clearing.specs.Clear.{clear-start, clear_none, clear-one, clear_end, bit-one, bit-none}
 use Rattle.clearing.proofs.clear_rows.Goals as goal
 use Rattle.clearing.proofs.clear_rows.Goals.{then-has, else-has}
 
@@ -21,10 +16,10 @@ has-requires c =
 pub record-r-requires : goal.record-r-requires
 record-r-requires c =
     let p = c.requires.rows in
-      record {
-        small = (p.2.at _ c.loop-k-test.true, p.4);
-        fair = c.loop-k.invariant.fair;
-      }
+    record {
+      small = (p.2.at _ c.loop-k-test.true, p.4);
+      fair = c.loop-k.invariant.fair;
+    }
 
 pub loop-k-preserved : goal.loop-k-preserved
 loop-k-preserved c =
@@ -32,10 +27,10 @@ loop-k-preserved c =
     let t = c.loop-k-test.true in
     let e = c.has.ensures in
     let p = c.requires.rows in
-    elim c.if-has.branch
-      [ then-has w ↦ rw (w.list-is, w.r-is) (clear-one i t (bit-one _ _ _ _ (sym e ∙ w.if-has.true)) w.record-r.ensures)
+    elim c.if-has.branch [
+      | then-has w ↦ rw (w.list-is, w.r-is) (clear-one i t (bit-one _ _ _ _ (sym e ∙ w.if-has.true)) w.record-r.ensures)
       | else-has w ↦ rw (w.list-is, w.r-is) (clear_none i t (bit-none _ _ _ _ (p.1.at _ t) (sym e ∙ w.if-has.false)))
-      ]
+    ]
 
 pub returns : goal.returns
 returns c = clear_end c.loop-k.invariant c.loop-k-test.false

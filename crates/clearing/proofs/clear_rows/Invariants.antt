@@ -1,12 +1,9 @@
 -- `clearing::clear_rows` meets its contract: what is left to record of ys. Assumes nothing.
-use mathlib.Core.Path.{sym, ◌∙◌}
-use mathlib.Core.Logic.{⊎_elim}
 use Prim.Native.Nat.{◌-◌}
 use lib.ListN.{length}
-use borrow.Author.Rules.{rules}
 use Rattle.loops.specs.Entry.{entry_at}
 use Rattle.tally.specs.Book.{book}
-use Rattle.clearing.specs.Clear.{Clearing, clear-start, clear_none, clear-one, clear_end, bit-one, bit-none}
+use Rattle.clearing.specs.Clear.{Clearing}
 use Rattle.clearing.proofs.clear_rows.Given as goal
 
 abbrev pub invariant-loop-k : goal.invariant-loop-k

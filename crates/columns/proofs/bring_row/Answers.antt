@@ -6,7 +6,6 @@ use borrow.Author.Tests.{eq-eqb}
 use Prim.Native.Nat.{ℕ, ◌<◌}
 use lib.ListN.{length}
 use native.Mathlib.Omega.{arith}
-use borrow.Author.Rules.{rules}
 use Rattle.columns.proofs.bring_row.Goals as goal
 
 pub swap-requires : goal.swap-requires

@@ -1,10 +1,7 @@
 -- `columns::first_one` meets its contract. Assumes nothing.
-use Rattle.columns.specs.First.{Seeking, seek_start, seek_next, seek_found, seek_end}
-use Rattle.grid.specs.Grid.{bit}
+use Rattle.columns.specs.First.{seek_start, seek_next, seek_found, seek_end}
 use mathlib.Core.Path.{sym, ◌∙◌}
 use Prim.Native.Nat.{◌-◌}
-use lib.ListN.{length}
-use borrow.Author.Rules.{rules}
 use Rattle.columns.proofs.first_one.Goals as goal
 
 pub loop-k-init : goal.loop-k-init

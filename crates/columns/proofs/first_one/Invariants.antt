@@ -1,10 +1,8 @@
 -- `columns::first_one` meets its contract. Assumes nothing.
-use Rattle.columns.specs.First.{Seeking, seek_start, seek_next, seek_found, seek_end}
+use Rattle.columns.specs.First.{Seeking}
 use Rattle.grid.specs.Grid.{bit}
-use mathlib.Core.Path.{sym, ◌∙◌}
 use Prim.Native.Nat.{◌-◌}
 use lib.ListN.{length}
-use borrow.Author.Rules.{rules}
 use Rattle.columns.proofs.first_one.Given as goal
 
 abbrev pub invariant-loop-k : goal.invariant-loop-k

@@ -5,7 +5,6 @@ use Rattle.columns.specs.Sweep.{moved_kept, moved_found, moved_none, under_part}
 use Rattle.grid.specs.Grid.{bit}
 use mathlib.Core.Path.{sym, ◌∙◌}
 use native.Mathlib.Omega.{arith}
-use borrow.Author.Rules.{rules}
 use Rattle.columns.proofs.front_one.Goals as goal
 
 pub has-requires : goal.has-requires
@@ -18,10 +17,10 @@ returns-then-has c =
 
 pub first_one-j-requires : goal.first_one-j-requires
 first_one-j-requires c =
-      record {
-        l_in_bounds = c.requires.l_in_bounds.0;
-        under = under_part c.args.v.now 1 (c.args.k - 1) c.requires.under (omega (arith, c.requires.l_in_bounds.1, c.requires.l_in_bounds.2));
-      }
+    record {
+      l_in_bounds = c.requires.l_in_bounds.0;
+      under = under_part c.args.v.now 1 (c.args.k - 1) c.requires.under (omega (arith, c.requires.l_in_bounds.1, c.requires.l_in_bounds.2));
+    }
 
 pub overflow_add-p : goal.overflow_add-p
 overflow_add-p c =

@@ -1,6 +1,5 @@
 -- `columns::last_zero` meets its contract. Assumes nothing.
-use Rattle.columns.specs.Sweep.{Ones, ones-start, ones_more, ones-found, ones_end, not-true, not-false}
-use Rattle.grid.specs.Grid.{bit}
+use Rattle.columns.specs.Sweep.{ones-start, ones_more, ones-found, ones_end, not-true, not-false}
 use mathlib.Core.Path.{sym, ◌∙◌}
 use Prim.Native.Nat.{◌-◌}
 use native.Mathlib.Omega.{arith}

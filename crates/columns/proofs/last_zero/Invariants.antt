@@ -1,10 +1,7 @@
 -- `columns::last_zero` meets its contract. Assumes nothing.
-use Rattle.columns.specs.Sweep.{Ones, ones-start, ones_more, ones-found, ones_end, not-true, not-false}
+use Rattle.columns.specs.Sweep.{Ones}
 use Rattle.grid.specs.Grid.{bit}
-use mathlib.Core.Path.{sym, ◌∙◌}
 use Prim.Native.Nat.{◌-◌}
-use native.Mathlib.Omega.{arith}
-use borrow.Author.Rules.{rules}
 use Rattle.columns.proofs.last_zero.Given as goal
 
 abbrev pub invariant-loop-t : goal.invariant-loop-t

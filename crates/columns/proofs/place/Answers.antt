@@ -1,10 +1,7 @@
 -- `columns::place` meets its contract. Assumes nothing.
-use Rattle.columns.specs.First.{Seeking, seek_start, seek_next, seek_found, seek_end}
-use Rattle.columns.specs.Exchange.{is}
+use Rattle.columns.specs.First.{seek_start, seek_next, seek_found, seek_end}
 use borrow.Author.Tests.{eq-eqb, ne_eqb}
 use Prim.Native.Nat.{◌-◌}
-use lib.ListN.{length}
-use borrow.Author.Rules.{rules}
 use Rattle.columns.proofs.place.Goals as goal
 
 pub loop-i-init : goal.loop-i-init

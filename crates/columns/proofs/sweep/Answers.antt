@@ -1,10 +1,8 @@
 -- `columns::sweep` meets its contract. Assumes nothing.
 use mathlib.Core.Path.{sym, ◌∙◌}
 use Prim.Native.Nat.{◌-◌}
-use Rattle.columns.specs.Sweep.{Swept, swept-start, swept-zero, swept_none, swept-one, swept_end}
-use Rattle.grid.specs.Grid.{bit}
+use Rattle.columns.specs.Sweep.{swept-start, swept-zero, swept_none, swept-one, swept_end}
 use native.Mathlib.Omega.{arith}
-use borrow.Author.Rules.{rules}
 use Rattle.columns.proofs.sweep.Goals as goal
 use Rattle.columns.proofs.sweep.Goals.{then-has+then-z-v, then-has+else-z-v, else-has}
 
@@ -22,10 +20,10 @@ has-requires c =
 
 pub last_zero-z-requires : goal.last_zero-z-requires
 last_zero-z-requires c =
-      record {
-        l_in_bounds = c.requires.l_in_bounds.0;
-        under = c.loop-c.invariant.under;
-      }
+    record {
+      l_in_bounds = c.requires.l_in_bounds.0;
+      under = c.loop-c.invariant.under;
+    }
 
 pub swap-requires : goal.swap-requires
 swap-requires c =
@@ -33,12 +31,12 @@ swap-requires c =
 
 pub loop-c-preserved : goal.loop-c-preserved
 loop-c-preserved c =
-    elim c.if-has.branch
-      [ then-has+then-z-v w ↦
+    elim c.if-has.branch [
+      | then-has+then-z-v w ↦
           rw w.v-is (swept-one c.loop-c.invariant c.loop-c-test.true (sym c.has.ensures ∙ w.if-has.true) w.last_zero-z.ensures w.if-z-v.true w.swap.ensures)
       | then-has+else-z-v w ↦ rw w.v-is (swept_none c.loop-c.invariant c.loop-c-test.true (sym c.has.ensures ∙ w.if-has.true) w.last_zero-z.ensures w.if-z-v.false)
       | else-has w ↦ rw w.v-is (swept-zero c.loop-c.invariant c.loop-c-test.true (sym c.has.ensures ∙ w.if-has.false))
-      ]
+    ]
 
 pub returns : goal.returns
 returns c = swept_end c.loop-c.invariant c.loop-c-test.false

@@ -1,11 +1,7 @@
 -- `columns::sweep` meets its contract. Assumes nothing.
-use mathlib.Core.Path.{sym, ◌∙◌}
 use Prim.Native.Nat.{◌-◌}
-use Rattle.columns.specs.Sweep.{Swept, swept-start, swept-zero, swept_none, swept-one, swept_end}
+use Rattle.columns.specs.Sweep.{Swept}
 use Rattle.grid.specs.Grid.{bit}
-use mathlib.Core.Logic.{⊎_elim}
-use native.Mathlib.Omega.{arith}
-use borrow.Author.Rules.{rules}
 use Rattle.columns.proofs.sweep.Given as goal
 
 abbrev pub invariant-loop-c : goal.invariant-loop-c

@@ -2,7 +2,6 @@
 use Prim.Native.Nat.{◌-◌}
 use lib.ListN.{length}
 use mathlib.Core.Path.{◌≡◌, refl}
-use native.Mathlib.Omega.{arith}
 use borrow.Author.Rules.{rules}
 use Rattle.edges.proofs.all.Statement.{statement}
 use Rattle.edges.proofs.all.Tie as tie

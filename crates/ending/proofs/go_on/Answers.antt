@@ -11,17 +11,17 @@ phase_two-requires c = prepared_is _ _ _ c.requires.posed (λ i. (c.shared_slice
 
 pub finish-requires : goal.finish-requires
 finish-requires c =
-      record {
-        posed = c.requires.posed;
-        reached = reached_is _ _ _ c.requires.posed (λ i. (c.shared_slice_known-1.given i).fits) (λ i. (c.shared_slice_known-2-1.given i).fits) _ _ _ _ _ c.requires.first c.requires.going.held _ _ _ c.in-Done.is c.phase_two.ensures c.phase_two.auto.list;
-        placed = record {
-      columns_size = c.requires.going.columns_size;
-      rows-size = c.phase_two.auto.d ∙ c.requires.going.rows-size;
-      marks_size = c.requires.going.marks_size;
-      order-room = c.requires.going.order-room;
-      order-blank = c.requires.going.order-blank;
-    };
-      }
+    record {
+      posed = c.requires.posed;
+      reached = reached_is _ _ _ c.requires.posed (λ i. (c.shared_slice_known-1.given i).fits) (λ i. (c.shared_slice_known-2-1.given i).fits) _ _ _ _ _ c.requires.first c.requires.going.held _ _ _ c.in-Done.is c.phase_two.ensures c.phase_two.auto.list;
+      placed = record {
+        columns_size = c.requires.going.columns_size;
+        rows-size = c.phase_two.auto.d ∙ c.requires.going.rows-size;
+        marks_size = c.requires.going.marks_size;
+        order-room = c.requires.going.order-room;
+        order-blank = c.requires.going.order-blank;
+      };
+    }
 
 pub returns-then-list-used : goal.returns-then-list-used
 returns-then-list-used c =
@@ -31,10 +31,10 @@ returns-then-list-used c =
 pub vector_of-requires : goal.vector_of-requires
 vector_of-requires c =
     let S = stuck_is _ _ _ c.requires.posed (λ i. (c.shared_slice_known-1.given i).fits) (λ i. (c.shared_slice_known-2-1.given i).fits) _ _ _ _ _ c.requires.first c.requires.going.held _ _ _ c.in-Singular.is c.phase_two.ensures c.phase_two.auto.list in
-      record {
-        singular = valuing_is _ _ _ c.requires.posed (λ i. (c.shared_slice_known-1.given i).fits) (λ i. (c.shared_slice_known-2-1.given i).fits) _ _ _ _ _ _ _ S c.requires.going.columns_size (c.phase_two.auto.d ∙ c.requires.going.rows-size) (c.phase_two.auto.work ∙ c.requires.going.work_size);
-        blank = blank-room _ _ c.requires.going.vector_room c.requires.going.vector_blank;
-      }
+    record {
+      singular = valuing_is _ _ _ c.requires.posed (λ i. (c.shared_slice_known-1.given i).fits) (λ i. (c.shared_slice_known-2-1.given i).fits) _ _ _ _ _ _ _ S c.requires.going.columns_size (c.phase_two.auto.d ∙ c.requires.going.rows-size) (c.phase_two.auto.work ∙ c.requires.going.work_size);
+      blank = blank-room _ _ c.requires.going.vector_room c.requires.going.vector_blank;
+    }
 
 pub returns-in-Done : goal.returns-in-Done
 returns-in-Done c = ending_ran _ _ _ c.phase_two.auto.list c.finish.ensures c.requires.going.vector_blank

@@ -2,8 +2,7 @@
 use Prim.Native.Nat.{◌-◌}
 use lib.ListN.{length}
 use Rattle.rule.specs.Permitted.{count}
-use Rattle.grid.specs.Grid.{bit, Filled, fill_start, fill_next, fill_end, fill_row}
-use borrow.Author.Rules.{rules}
+use Rattle.grid.specs.Grid.{bit, Filled}
 use Rattle.figures.proofs.counts.Given as goal
 
 abbrev pub invariant-loop-x : goal.invariant-loop-x

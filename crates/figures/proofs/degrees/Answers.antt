@@ -1,10 +1,7 @@
 -- `figures::degrees` meets its contract. Assumes nothing.
 use mathlib.Core.Path.{refl}
 use Prim.Native.Nat.{◌-◌}
-use lib.ListN.{length}
-use Rattle.grid.specs.Grid.{Filled, fill_start, fill_next, fill_end}
-use Rattle.figures.specs.Told.{told}
-use borrow.Author.Rules.{rules}
+use Rattle.grid.specs.Grid.{fill_start, fill_next, fill_end}
 use Rattle.figures.proofs.degrees.Goals as goal
 
 pub loop-x-init : goal.loop-x-init

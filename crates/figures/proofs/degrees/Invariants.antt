@@ -1,10 +1,8 @@
 -- `figures::degrees` meets its contract. Assumes nothing.
-use mathlib.Core.Path.{refl}
 use Prim.Native.Nat.{◌-◌}
 use lib.ListN.{length}
-use Rattle.grid.specs.Grid.{Filled, fill_start, fill_next, fill_end}
+use Rattle.grid.specs.Grid.{Filled}
 use Rattle.figures.specs.Told.{told}
-use borrow.Author.Rules.{rules}
 use Rattle.figures.proofs.degrees.Given as goal
 
 abbrev pub invariant-loop-x : goal.invariant-loop-x

@@ -1,12 +1,9 @@
 -- `figures::first_with` meets its contract. Assumes nothing.
-use Rattle.columns.specs.First.{Seeking, seek_start, seek_next, seek_found, seek_end}
+use Rattle.columns.specs.First.{Seeking}
 use Rattle.figures.specs.Told.{told}
-use borrow.Author.Tests.{eq-eqb, ne_eqb}
 use lib.ListN.{length}
 use lib.Dec.{eqb}
 use Prim.Native.Nat.{◌-◌}
-use native.Mathlib.Omega.{arith}
-use borrow.Author.Rules.{rules}
 use Rattle.figures.proofs.first_with.Given as goal
 
 abbrev pub invariant-loop-k : goal.invariant-loop-k

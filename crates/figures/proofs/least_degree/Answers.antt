@@ -1,13 +1,9 @@
 -- `figures::least_degree` meets its contract. Assumes nothing.
-use Rattle.figures.specs.Least.{Lighter, any, light_start, light_less, light_more, light_end}
+use Rattle.figures.specs.Least.{light_start, light_less, light_more, light_end}
 use Rattle.figures.specs.Told.{told}
-use Rattle.rule.specs.Lists.{head_least}
 use mathlib.Core.Path.{refl}
-use mathlib.Core.Logic.{⊎_elim}
-use lib.ListN.{length}
 use Prim.Native.Nat.{◌-◌}
 use native.Mathlib.Omega.{arith}
-use borrow.Author.Rules.{rules}
 use Rattle.figures.proofs.least_degree.Goals as goal
 use Rattle.figures.proofs.least_degree.Goals.{then-deg-y, else-deg-y}
 
@@ -28,10 +24,10 @@ bounds-deg-b c = omega (arith, c.loop-k.invariant.low)
 
 pub loop-k-preserved : goal.loop-k-preserved
 loop-k-preserved c =
-    elim c.if-deg-y.branch
-      [ then-deg-y w ↦ rw w.b-is (light_less c.loop-k.invariant c.loop-k-test.true refl (c.requires.under.at c.loop-k.k c.loop-k-test.true) w.if-deg-y.true)
+    elim c.if-deg-y.branch [
+      | then-deg-y w ↦ rw w.b-is (light_less c.loop-k.invariant c.loop-k-test.true refl (c.requires.under.at c.loop-k.k c.loop-k-test.true) w.if-deg-y.true)
       | else-deg-y w ↦ rw w.b-is (light_more c.loop-k.invariant c.loop-k-test.true refl w.if-deg-y.false)
-      ]
+    ]
 
 pub returns : goal.returns
 returns c = light_end c.loop-k.invariant c.loop-k-test.false

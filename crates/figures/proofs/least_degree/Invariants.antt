@@ -1,13 +1,9 @@
 -- `figures::least_degree` meets its contract. Assumes nothing.
-use Rattle.figures.specs.Least.{Lighter, any, light_start, light_less, light_more, light_end}
+use Rattle.figures.specs.Least.{Lighter, any}
 use Rattle.figures.specs.Told.{told}
 use Rattle.rule.specs.Lists.{head_least}
-use mathlib.Core.Path.{refl}
-use mathlib.Core.Logic.{⊎_elim}
 use lib.ListN.{length}
 use Prim.Native.Nat.{◌-◌}
-use native.Mathlib.Omega.{arith}
-use borrow.Author.Rules.{rules}
 use Rattle.figures.proofs.least_degree.Given as goal
 
 abbrev pub invariant-loop-k : goal.invariant-loop-k

@@ -1,13 +1,10 @@
 -- `figures::least_degree_of` meets its contract. Assumes nothing.
-use Rattle.figures.specs.Least.{Lighter, light_first, light_skip, light_less, light_more, light_end}
+use Rattle.figures.specs.Least.{light_first, light_skip, light_less, light_more, light_end}
 use Rattle.figures.specs.Told.{told}
-use Rattle.rule.specs.Lists.{head_least, filter}
 use borrow.Author.Tests.{eq-eqb, ne_eqb}
-use lib.ListN.{length}
 use lib.Dec.{eqb}
 use Prim.Native.Nat.{◌-◌}
 use native.Mathlib.Omega.{arith}
-use borrow.Author.Rules.{rules}
 use Rattle.figures.proofs.least_degree_of.Goals as goal
 use Rattle.figures.proofs.least_degree_of.Goals.{then-ones-x+then-deg-x, then-ones-x+else-deg-x, else-ones-x}
 
@@ -38,12 +35,12 @@ bounds-deg-b c = omega (arith, c.loop-k.invariant.low)
 
 pub loop-k-preserved : goal.loop-k-preserved
 loop-k-preserved c =
-    elim c.if-ones-x.branch
-      [ then-ones-x+then-deg-x w ↦
+    elim c.if-ones-x.branch [
+      | then-ones-x+then-deg-x w ↦
           rw w.b-is (light_less c.loop-k.invariant c.loop-k-test.true (eq-eqb _ _ w.if-ones-x.true) (c.requires.under_2.at c.loop-k.k c.loop-k-test.true) w.if-deg-x.true)
       | then-ones-x+else-deg-x w ↦ rw w.b-is (light_more c.loop-k.invariant c.loop-k-test.true (eq-eqb _ _ w.if-ones-x.true) w.if-deg-x.false)
       | else-ones-x w ↦ rw w.b-is (light_skip c.loop-k.invariant c.loop-k-test.true (ne_eqb _ _ w.if-ones-x.false))
-      ]
+    ]
 
 pub returns : goal.returns
 returns c = light_end c.loop-k.invariant c.loop-k-test.false

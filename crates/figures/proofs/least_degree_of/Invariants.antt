@@ -1,14 +1,10 @@
 -- `figures::least_degree_of` meets its contract. Assumes nothing.
-use Rattle.figures.specs.Least.{Lighter, light_first, light_skip, light_less, light_more, light_end}
+use Rattle.figures.specs.Least.{Lighter}
 use Rattle.figures.specs.Told.{told}
 use Rattle.rule.specs.Lists.{head_least, filter}
-use mathlib.Core.Logic.{⊎_elim}
-use borrow.Author.Tests.{eq-eqb, ne_eqb}
 use lib.ListN.{length}
 use lib.Dec.{eqb}
 use Prim.Native.Nat.{◌-◌}
-use native.Mathlib.Omega.{arith}
-use borrow.Author.Rules.{rules}
 use Rattle.figures.proofs.least_degree_of.Given as goal
 
 abbrev pub invariant-loop-k : goal.invariant-loop-k

@@ -1,10 +1,8 @@
 -- `figures::least_positive` meets its contract. Assumes nothing.
-use Rattle.figures.specs.Least.{Lowering, lower_start, lower_next, lower_end}
+use Rattle.figures.specs.Least.{Lowering}
 use Rattle.figures.specs.Told.{told}
 use lib.ListN.{length}
 use Prim.Native.Nat.{◌-◌}
-use native.Mathlib.Omega.{arith}
-use borrow.Author.Rules.{rules}
 use Rattle.figures.proofs.least_positive.Given as goal
 
 abbrev pub invariant-loop-k : goal.invariant-loop-k

@@ -4,24 +4,22 @@ use Rattle.firstphase.specs.Clears.{below_at}
 use Rattle.loops.specs.Part.{part}
 use Rattle.clearing.specs.Clear.{cleared}
 use Rattle.stepping.specs.Turns.{as_shape}
-use native.Mathlib.Omega.{arith}
-use borrow.Author.Rules.{rules}
 use Rattle.firstphase.proofs.clear_step.Goals as goal
 
 pub clear_rows-first-requires : goal.clear_rows-first-requires
 unfolding part
 clear_rows-first-requires c =
-      record {
-        rows = (c.requires.clear.rows, c.requires.clear.binary, c.requires.clear.few, c.requires.clear.pivot, c.requires.clear.row);
-        fair = c.requires.fair;
-      }
+    record {
+      rows = (c.requires.clear.rows, c.requires.clear.binary, c.requires.clear.few, c.requires.clear.pivot, c.requires.clear.row);
+      fair = c.requires.fair;
+    }
 
 pub clear_octets-requires : goal.clear_octets-requires
 clear_octets-requires c =
-      record {
-        l_in_bounds = (c.requires.clear.octets, c.requires.clear.small, c.requires.clear.pivot, c.requires.clear.row);
-        fair = c.clear_rows-first.ensures.fair;
-      }
+    record {
+      l_in_bounds = (c.requires.clear.octets, c.requires.clear.small, c.requires.clear.pivot, c.requires.clear.row);
+      fair = c.clear_rows-first.ensures.fair;
+    }
 
 pub returns : goal.returns
 unfolding part

@@ -1,12 +1,7 @@
-use mathlib.Core.Path.{◌∙◌}
 use Prim.Native.Nat.{◌-◌}
-use lib.ListN.{length}
-use Rattle.tally.specs.Book.{book}
-use Rattle.stepping.specs.Turns.{as_shape}
 use Rattle.labels.specs.Marking.{as_long}
-use Rattle.firstphase.specs.Ended.{Looping, loop_start, step_clear, loop_next, turned_none, turned-some, same_cols, same_rows, same_ones, same_singles, same_labels, ended-none, ended_spent, sum_fits}
+use Rattle.firstphase.specs.Ended.{loop_start, step_clear, loop_next, turned_none, turned-some, ended-none, ended_spent, sum_fits}
 use native.Mathlib.Omega.{arith}
-use borrow.Author.Rules.{rules}
 use Rattle.firstphase.proofs.steps.Goals as goal
 
 pub loop-st-init : goal.loop-st-init
@@ -17,21 +12,21 @@ overflow_add-st c = omega (arith, sum_fits c.requires.given c.loop-st.invariant)
 
 pub turn-made-requires : goal.turn-made-requires
 turn-made-requires c =
-      record {
-        given = c.requires.given;
-        standing = c.loop-st.invariant.standing;
-        deg_len = (c.requires.deg_len.0, c.requires.deg_len.1, as_long c.requires.deg_len.2 c.loop-st.invariant.room);
-      }
+    record {
+      given = c.requires.given;
+      standing = c.loop-st.invariant.standing;
+      deg_len = (c.requires.deg_len.0, c.requires.deg_len.1, as_long c.requires.deg_len.2 c.loop-st.invariant.room);
+    }
 
 pub returns-in-Nothing : goal.returns-in-Nothing
 returns-in-Nothing c = ended-none c.requires.given c.loop-st.invariant (turned_none c.loop-st.st c.in-Nothing.is c.turn-made.ensures) c.loop-st-test.true
 
 pub clear_step-r-requires : goal.clear_step-r-requires
 clear_step-r-requires c =
-      record {
-        clear = step_clear c.requires.given c.loop-st.invariant (turned-some c.loop-st.st _ c.in-Stepped.is c.turn-made.ensures).0 (turned-some c.loop-st.st _ c.in-Stepped.is c.turn-made.ensures).1 c.requires.i_value.1;
-        fair = c.loop-st.invariant.listed.fair;
-      }
+    record {
+      clear = step_clear c.requires.given c.loop-st.invariant (turned-some c.loop-st.st _ c.in-Stepped.is c.turn-made.ensures).0 (turned-some c.loop-st.st _ c.in-Stepped.is c.turn-made.ensures).1 c.requires.i_value.1;
+      fair = c.loop-st.invariant.listed.fair;
+    }
 
 pub loop-st-smaller : goal.loop-st-smaller
 loop-st-smaller c = omega (arith, (turned-some c.loop-st.st _ c.in-Stepped.is c.turn-made.ensures).0, c.loop-st-test.true)

@@ -1,12 +1,8 @@
-use mathlib.Core.Path.{◌∙◌}
 use Prim.Native.Nat.{◌-◌}
 use lib.ListN.{length}
 use Rattle.tally.specs.Book.{book}
 use Rattle.stepping.specs.Turns.{as_shape}
-use Rattle.labels.specs.Marking.{as_long}
-use Rattle.firstphase.specs.Ended.{Looping, loop_start, step_clear, loop_next, turned_none, turned-some, same_cols, same_rows, same_ones, same_singles, same_labels, ended-none, ended_spent, sum_fits}
-use native.Mathlib.Omega.{arith}
-use borrow.Author.Rules.{rules}
+use Rattle.firstphase.specs.Ended.{Looping}
 use Rattle.firstphase.proofs.steps.Given as goal
 
 abbrev pub invariant-loop-st : goal.invariant-loop-st

@@ -1,9 +1,6 @@
 use mathlib.Core.Path.{refl}
 use Prim.Native.Nat.{◌-◌}
-use lib.ListN.{length}
-use Rattle.grid.specs.Grid.{Filled, fill_start, fill_next, fill_end}
-use native.Mathlib.Omega.{arith}
-use borrow.Author.Rules.{rules}
+use Rattle.grid.specs.Grid.{fill_start, fill_next, fill_end}
 use Rattle.grid.proofs.clear.Goals as goal
 
 pub loop-k-init : goal.loop-k-init

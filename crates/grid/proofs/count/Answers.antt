@@ -1,10 +1,6 @@
-use Rattle.grid.specs.Grid.{bit, Counting, count-start, count-one, count_none, count_end}
+use Rattle.grid.specs.Grid.{count-start, count-one, count_none, count_end}
 use mathlib.Core.Path.{sym, ◌∙◌}
-use mathlib.Core.Logic.{⊎_elim}
 use Prim.Native.Nat.{◌-◌}
-use lib.ListN.{length}
-use native.Mathlib.Omega.{arith}
-use borrow.Author.Rules.{rules}
 use Rattle.grid.proofs.count.Goals as goal
 use Rattle.grid.proofs.count.Goals.{then-has, else-has}
 
@@ -16,10 +12,10 @@ has-requires c = (c.requires.l_in_bounds, c.requires.under.at _ c.loop-k-test.tr
 
 pub loop-k-preserved : goal.loop-k-preserved
 loop-k-preserved c =
-    elim c.if-has.branch
-      [ then-has w ↦ rw w.n-is (count-one c.loop-k.invariant c.loop-k-test.true (sym c.has.ensures ∙ w.if-has.true))
+    elim c.if-has.branch [
+      | then-has w ↦ rw w.n-is (count-one c.loop-k.invariant c.loop-k-test.true (sym c.has.ensures ∙ w.if-has.true))
       | else-has w ↦ rw w.n-is (count_none c.loop-k.invariant c.loop-k-test.true (sym c.has.ensures ∙ w.if-has.false))
-      ]
+    ]
 
 pub returns : goal.returns
 returns c = count_end c.loop-k.invariant c.loop-k-test.false

@@ -1,10 +1,6 @@
-use Rattle.grid.specs.Grid.{bit, Counting, count-start, count-one, count_none, count_end}
-use mathlib.Core.Path.{sym, ◌∙◌}
-use mathlib.Core.Logic.{⊎_elim}
+use Rattle.grid.specs.Grid.{bit, Counting}
 use Prim.Native.Nat.{◌-◌}
 use lib.ListN.{length}
-use native.Mathlib.Omega.{arith}
-use borrow.Author.Rules.{rules}
 use Rattle.grid.proofs.count.Given as goal
 
 abbrev pub invariant-loop-k : goal.invariant-loop-k

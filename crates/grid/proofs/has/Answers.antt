@@ -1,6 +1,5 @@
 use Rattle.loops.specs.Entry.{entry_within}
 use Rattle.grid.specs.Grid.{bit}
-use borrow.Author.Rules.{rules}
 use Rattle.grid.proofs.has.Goals as goal
 
 pub returns : goal.returns

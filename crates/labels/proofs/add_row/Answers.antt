@@ -2,7 +2,6 @@ use Rattle.labels.specs.Marking.{first_next, ready_next, has_label}
 use Rattle.grid.specs.Grid.{bit}
 use Rattle.labels.specs.Marking.{first-at, second_at, both_there, pair_marked, row_marked}
 use native.Mathlib.Omega.{arith}
-use borrow.Author.Rules.{rules}
 use Rattle.labels.proofs.add_row.Goals as goal
 
 pub next_one-a-requires : goal.next_one-a-requires

@@ -1,8 +1,6 @@
 use Rattle.grid.specs.Grid.{bit}
 use Rattle.labels.specs.Marking.{noted_no, noted-not, noted_so}
 use mathlib.Core.Path.{sym, ◌∙◌}
-use native.Mathlib.Omega.{arith}
-use borrow.Author.Rules.{rules}
 use Rattle.labels.proofs.is_noted.Goals as goal
 
 pub has-requires : goal.has-requires

@@ -1,9 +1,7 @@
 -- `labels::merge` meets its contract: each column gets its label, one after another. Assumes nothing.
 use Prim.Native.Nat.{◌-◌}
-use lib.ListN.{length}
-use Rattle.labels.specs.Facts.{Part, part-start, part-next, part_end}
+use Rattle.labels.specs.Facts.{part-start, part-next, part_end}
 use native.Mathlib.Omega.{arith}
-use borrow.Author.Rules.{rules}
 use Rattle.labels.proofs.merge.Goals as goal
 
 pub loop-c-init : goal.loop-c-init
@@ -17,8 +15,8 @@ loop-c-preserved c =
 pub returns : goal.returns
 returns c =
     let h = c.loop-c.invariant in
-      record {
-        kept = h.len;
-        next = c.following.ensures;
-        each = part_end _ _ _ _ _ _ c.requires.0 c.requires.1 h c.loop-c-test.false;
-      }
+    record {
+      kept = h.len;
+      next = c.following.ensures;
+      each = part_end _ _ _ _ _ _ c.requires.0 c.requires.1 h c.loop-c-test.false;
+    }

@@ -1,9 +1,7 @@
 -- `labels::merge` meets its contract: each column gets its label, one after another. Assumes nothing.
 use Prim.Native.Nat.{◌-◌}
 use lib.ListN.{length}
-use Rattle.labels.specs.Facts.{Part, part-start, part-next, part_end}
-use native.Mathlib.Omega.{arith}
-use borrow.Author.Rules.{rules}
+use Rattle.labels.specs.Facts.{Part}
 use Rattle.labels.proofs.merge.Given as goal
 
 abbrev pub invariant-loop-c : goal.invariant-loop-c

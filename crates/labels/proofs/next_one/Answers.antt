@@ -1,10 +1,6 @@
-use Rattle.labels.specs.Marking.{Seeking, seek_start, seek_next, seek_hit, seek_end}
-use Rattle.grid.specs.Grid.{bit}
+use Rattle.labels.specs.Marking.{seek_start, seek_next, seek_hit, seek_end}
 use mathlib.Core.Path.{sym, ◌∙◌}
 use Prim.Native.Nat.{◌-◌}
-use lib.ListN.{length}
-use native.Mathlib.Omega.{arith}
-use borrow.Author.Rules.{rules}
 use Rattle.labels.proofs.next_one.Goals as goal
 
 pub loop-p-init : goal.loop-p-init

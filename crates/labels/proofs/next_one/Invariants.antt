@@ -1,10 +1,7 @@
-use Rattle.labels.specs.Marking.{Seeking, seek_start, seek_next, seek_hit, seek_end}
+use Rattle.labels.specs.Marking.{Seeking}
 use Rattle.grid.specs.Grid.{bit}
-use mathlib.Core.Path.{sym, ◌∙◌}
 use Prim.Native.Nat.{◌-◌}
 use lib.ListN.{length}
-use native.Mathlib.Omega.{arith}
-use borrow.Author.Rules.{rules}
 use Rattle.labels.proofs.next_one.Given as goal
 
 abbrev pub invariant-loop-p : goal.invariant-loop-p

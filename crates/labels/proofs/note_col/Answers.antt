@@ -1,12 +1,7 @@
 use Rattle.labels.specs.Marking.{as_long}
 use mathlib.Core.Path.{sym, ◌∙◌}
-use mathlib.Core.Logic.{⊎_elim}
 use Prim.Native.Nat.{◌-◌}
-use lib.ListN.{length}
-use Rattle.grid.specs.Grid.{bit}
-use Rattle.labels.specs.Marking.{Joining, join_start, join_hit, join_skip, join_end, is_noted, noted-two}
-use native.Mathlib.Omega.{arith}
-use borrow.Author.Rules.{rules}
+use Rattle.labels.specs.Marking.{join_start, join_hit, join_skip, join_end, is_noted, noted-two}
 use Rattle.labels.proofs.note_col.Goals as goal
 use Rattle.labels.proofs.note_col.Goals.{then-is_noted, else-is_noted}
 
@@ -21,10 +16,10 @@ add_row-m-requires c = (c.requires.0.at _ c.loop-k-test.true, c.requires.4, note
 
 pub loop-k-preserved : goal.loop-k-preserved
 loop-k-preserved c =
-    elim c.if-is_noted.branch
-      [ then-is_noted w ↦ rw (w.labels-is, w.m-is) (join_hit c.loop-k.invariant c.loop-k-test.true (sym c.is_noted.ensures ∙ w.if-is_noted.true) w.add_row-m.ensures)
+    elim c.if-is_noted.branch [
+      | then-is_noted w ↦ rw (w.labels-is, w.m-is) (join_hit c.loop-k.invariant c.loop-k-test.true (sym c.is_noted.ensures ∙ w.if-is_noted.true) w.add_row-m.ensures)
       | else-is_noted w ↦ rw (w.labels-is, w.m-is) (join_skip c.loop-k.invariant c.loop-k-test.true (sym c.is_noted.ensures ∙ w.if-is_noted.false))
-      ]
+    ]
 
 pub returns : goal.returns
 returns c = join_end c.loop-k.invariant c.loop-k-test.false

@@ -1,12 +1,7 @@
-use Rattle.labels.specs.Marking.{as_long}
-use mathlib.Core.Path.{sym, ◌∙◌}
-use mathlib.Core.Logic.{⊎_elim}
 use Prim.Native.Nat.{◌-◌}
 use lib.ListN.{length}
 use Rattle.grid.specs.Grid.{bit}
-use Rattle.labels.specs.Marking.{Joining, join_start, join_hit, join_skip, join_end, is_noted, noted-two}
-use native.Mathlib.Omega.{arith}
-use borrow.Author.Rules.{rules}
+use Rattle.labels.specs.Marking.{Joining, is_noted}
 use Rattle.labels.proofs.note_col.Given as goal
 
 abbrev pub invariant-loop-k : goal.invariant-loop-k

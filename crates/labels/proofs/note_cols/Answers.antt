@@ -1,10 +1,7 @@
 use Prim.Native.Nat.{◌+◌, ◌-◌}
-use lib.ListN.{length}
 use Rattle.loops.specs.Part.{rest_part}
-use Rattle.grid.specs.Grid.{bit}
-use Rattle.labels.specs.Marking.{Noting, note-start, note-next, note_end, under_rest, as_long}
+use Rattle.labels.specs.Marking.{note-start, note-next, note_end, under_rest, as_long}
 use native.Mathlib.Omega.{arith}
-use borrow.Author.Rules.{rules}
 use Rattle.labels.proofs.note_cols.Goals as goal
 
 pub loop-k-init : goal.loop-k-init

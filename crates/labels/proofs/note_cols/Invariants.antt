@@ -1,10 +1,7 @@
-use Prim.Native.Nat.{◌+◌, ◌-◌}
+use Prim.Native.Nat.{◌-◌}
 use lib.ListN.{length}
-use Rattle.loops.specs.Part.{rest_part}
 use Rattle.grid.specs.Grid.{bit}
-use Rattle.labels.specs.Marking.{Noting, note-start, note-next, note_end, under_rest, as_long}
-use native.Mathlib.Omega.{arith}
-use borrow.Author.Rules.{rules}
+use Rattle.labels.specs.Marking.{Noting}
 use Rattle.labels.proofs.note_cols.Given as goal
 
 abbrev pub invariant-loop-k : goal.invariant-loop-k

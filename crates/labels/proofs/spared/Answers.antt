@@ -1,7 +1,6 @@
 use Rattle.grid.specs.Grid.{bit}
 use Rattle.labels.specs.Marking.{spared_yes, spared_no}
 use native.Mathlib.Omega.{arith}
-use borrow.Author.Rules.{rules}
 use Rattle.labels.proofs.spared.Goals as goal
 
 pub next_one-a-requires : goal.next_one-a-requires

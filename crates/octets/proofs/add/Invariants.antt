@@ -1,12 +1,8 @@
 -- `octets::add` meets its contract. The loop makes the sum from the front. Assumes nothing.
-use mathlib.Core.Path.{sym, ap, ◌∙◌}
 use Prim.Native.Nat.{◌-◌}
-use native.Mathlib.Omega.{arith}
-use lib.ListN.{length, get_or}
-use Rattle.loops.specs.Front.{Front, begin, unread, turn, end}
-use Rattle.octet.specs.Octet.{add}
+use lib.ListN.{length}
+use Rattle.loops.specs.Front.{Front}
 use Rattle.octets.specs.Rows.{add_row}
-use Rattle.octets.specs.Laws.{length-add_row, get_or-add_row}
 use Rattle.octets.proofs.add.Given as goal
 
 abbrev pub invariant-loop-i : goal.invariant-loop-i

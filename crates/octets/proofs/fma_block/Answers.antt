@@ -1,10 +1,9 @@
 -- `octets::fma_block` meets its contract. Assumes nothing.
 use mathlib.Core.Path.{ap₂}
-use Prim.Native.Nat.{◌+◌, ◌-◌, ◌≤◌}
+use Prim.Native.Nat.{◌+◌}
 use native.Mathlib.Omega.{arith}
-use borrow.Author.Rules.{rules}
 use Rattle.octet.specs.Octet.{add}
-use Rattle.octets.specs.Spans.{Span, fma_at, span_start, span_next, span_upto}
+use Rattle.octets.specs.Spans.{span_start, span_next, span_upto}
 use Rattle.octets.proofs.fma_block.Goals as goal
 
 pub loop-j-init : goal.loop-j-init

@@ -1,10 +1,6 @@
 -- `octets::fma_block` meets its contract. Assumes nothing.
-use mathlib.Core.Path.{ap₂}
 use Prim.Native.Nat.{◌+◌, ◌-◌, ◌≤◌}
-use native.Mathlib.Omega.{arith}
-use borrow.Author.Rules.{rules}
-use Rattle.octet.specs.Octet.{add}
-use Rattle.octets.specs.Spans.{Span, fma_at, span_start, span_next, span_upto}
+use Rattle.octets.specs.Spans.{Span, fma_at}
 use Rattle.octets.proofs.fma_block.Given as goal
 
 abbrev pub invariant-loop-j : goal.invariant-loop-j

@@ -1,11 +1,10 @@
 -- `octets::fma_last` meets its contract. Assumes nothing.
 use mathlib.Core.Path.{refl, ap}
-use Prim.Native.Nat.{◌+◌, ◌-◌, ◌≤◌}
+use Prim.Native.Nat.{◌+◌, ◌-◌}
 use native.Mathlib.Omega.{arith}
 use lib.ListN.{length, get_or}
-use borrow.Author.Rules.{rules}
 use Rattle.octet.specs.Octet.{add}
-use Rattle.octets.specs.Spans.{Span, fma_at, span_start, span_next}
+use Rattle.octets.specs.Spans.{span_start, span_next}
 use Rattle.octets.proofs.fma_last.Goals as goal
 
 pub loop-j-init : goal.loop-j-init

@@ -1,11 +1,6 @@
 -- `octets::fma_last` meets its contract. Assumes nothing.
-use mathlib.Core.Path.{refl, ap}
 use Prim.Native.Nat.{◌+◌, ◌-◌, ◌≤◌}
-use native.Mathlib.Omega.{arith}
-use lib.ListN.{length, get_or}
-use borrow.Author.Rules.{rules}
-use Rattle.octet.specs.Octet.{add}
-use Rattle.octets.specs.Spans.{Span, fma_at, span_start, span_next}
+use Rattle.octets.specs.Spans.{Span, fma_at}
 use Rattle.octets.proofs.fma_last.Given as goal
 
 abbrev pub invariant-loop-j : goal.invariant-loop-j

@@ -1,13 +1,12 @@
 -- `octets::fma_long` meets its contract. The loop makes the sum from the front, a block at a time; the last block was made before.
 -- Assumes nothing.
 use mathlib.Core.Path.{refl, ap, ◌∙◌}
-use Prim.Native.Nat.{◌-◌, ◌≤◌}
+use Prim.Native.Nat.{◌-◌}
 use native.Mathlib.Omega.{arith}
 use lib.ListN.{length, get_or}
-use borrow.Author.Rules.{rules}
 use Rattle.octet.specs.Octet.{add, mul}
 use Rattle.octets.specs.Laws.{length-fma_row, get_or-fma_row}
-use Rattle.octets.specs.Spans.{Span, fma_at, span_start, span_join, span_all}
+use Rattle.octets.specs.Spans.{fma_at, span_start, span_join, span_all}
 use Rattle.octets.proofs.fma_long.Goals as goal
 
 pub loop-i-init : goal.loop-i-init

@@ -1,13 +1,8 @@
 -- `octets::fma_short` meets its contract. The loop makes the sum from the front. Assumes nothing.
-use mathlib.Core.Path.{sym, ap₂, ◌∙◌}
 use Prim.Native.Nat.{◌-◌}
-use native.Mathlib.Omega.{arith}
 use lib.ListN.{length}
-use borrow.Author.Rules.{rules}
-use Rattle.loops.specs.Front.{Front, begin, unread, turn, end}
-use Rattle.octet.specs.Octet.{add}
+use Rattle.loops.specs.Front.{Front}
 use Rattle.octets.specs.Rows.{fma_row}
-use Rattle.octets.specs.Laws.{length-fma_row, get_or-fma_row}
 use Rattle.octets.proofs.fma_short.Given as goal
 
 abbrev pub invariant-loop-i : goal.invariant-loop-i

@@ -1,7 +1,6 @@
 -- `octets::product` meets its contract: the multiples that the digits pick add up to the product. Assumes nothing.
 use native.Mathlib.Omega.{arith}
 use lib.Dec.{lit<}
-use borrow.Author.Rules.{rules}
 use Rattle.octet.specs.Octet.{add}
 use Rattle.octets.proofs.Doubling.{sum-start, sum-next, sum-all}
 use Rattle.octets.proofs.product.Goals as goal

@@ -1,12 +1,8 @@
 -- `octets::scale` meets its contract. The loop makes the multiple from the front. Assumes nothing.
 use mathlib.Core.Path.{sym, ap, ◌∙◌}
-use Prim.Native.Nat.{◌-◌}
 use native.Mathlib.Omega.{arith}
-use lib.ListN.{length}
-use borrow.Author.Rules.{rules}
-use Rattle.loops.specs.Front.{Front, begin, unread, turn, end}
+use Rattle.loops.specs.Front.{begin, unread, turn, end}
 use Rattle.octet.specs.Octet.{mul}
-use Rattle.octets.specs.Rows.{scale_row}
 use Rattle.octets.specs.Laws.{length-scale_row, get_or-scale_row}
 use Rattle.octets.proofs.scale.Goals as goal
 

@@ -1,10 +1,8 @@
 -- `octets::store_last` meets its contract. Assumes nothing.
 use mathlib.Core.Path.{ap}
-use Prim.Native.Nat.{◌+◌, ◌-◌, ◌≤◌}
 use native.Mathlib.Omega.{arith}
 use lib.ListN.{get_or}
-use borrow.Author.Rules.{rules}
-use Rattle.octets.specs.Spans.{Span, from_end, span_start, span_next, span_upto}
+use Rattle.octets.specs.Spans.{span_start, span_next, span_upto}
 use Rattle.octets.proofs.store_last.Goals as goal
 
 pub loop-j-init : goal.loop-j-init

@@ -1,6 +1,5 @@
 -- `octets::twice` meets its contract. Assumes nothing.
 use native.Mathlib.Omega.{arith}
-use borrow.Author.Rules.{rules}
 use Rattle.octet.specs.Octet.{add}
 use Rattle.octets.proofs.Doubling.{doubled}
 use Rattle.octets.proofs.twice.Goals as goal

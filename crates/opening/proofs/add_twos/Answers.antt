@@ -1,12 +1,8 @@
 -- `opening::add_twos` meets its contract: what is left to join of ys. Assumes nothing.
 use mathlib.Core.Path.{sym, ◌∙◌}
-use mathlib.Core.Logic.{⊎_elim}
 use Prim.Native.Nat.{◌-◌}
-use lib.ListN.{length}
-use borrow.Author.Rules.{rules}
-use Rattle.grid.specs.Grid.{bit}
-use Rattle.labels.specs.Marking.{Joining, join_start, join_hit, join_skip, join_end, as_long}
-use Rattle.opening.specs.Marks.{is_two, two_yes, two_no, two-ones}
+use Rattle.labels.specs.Marking.{join_start, join_hit, join_skip, join_end, as_long}
+use Rattle.opening.specs.Marks.{two_yes, two_no, two-ones}
 use Rattle.opening.proofs.add_twos.Goals as goal
 use Rattle.opening.proofs.add_twos.Goals.{then-ones_of-eq2, else-ones_of-eq2}
 
@@ -26,10 +22,10 @@ pub loop-k-preserved : goal.loop-k-preserved
 loop-k-preserved c =
     let i = c.loop-k.invariant in
     let t = c.loop-k-test.true in
-    elim c.if-ones_of-eq2.branch
-      [ then-ones_of-eq2 w ↦ rw (w.labels-is, w.m-is) (join_hit i t (two_yes _ _ (sym c.ones_of.ensures ∙ w.if-ones_of-eq2.true)) w.add_row-m.ensures)
+    elim c.if-ones_of-eq2.branch [
+      | then-ones_of-eq2 w ↦ rw (w.labels-is, w.m-is) (join_hit i t (two_yes _ _ (sym c.ones_of.ensures ∙ w.if-ones_of-eq2.true)) w.add_row-m.ensures)
       | else-ones_of-eq2 w ↦ rw (w.labels-is, w.m-is) (join_skip i t (two_no _ _ (λ q. w.if-ones_of-eq2.false (c.ones_of.ensures ∙ q))))
-      ]
+    ]
 
 pub returns : goal.returns
 returns c = join_end c.loop-k.invariant c.loop-k-test.false

@@ -1,12 +1,9 @@
 -- `opening::add_twos` meets its contract: what is left to join of ys. Assumes nothing.
-use mathlib.Core.Path.{sym, ◌∙◌}
-use mathlib.Core.Logic.{⊎_elim}
 use Prim.Native.Nat.{◌-◌}
 use lib.ListN.{length}
-use borrow.Author.Rules.{rules}
 use Rattle.grid.specs.Grid.{bit}
-use Rattle.labels.specs.Marking.{Joining, join_start, join_hit, join_skip, join_end, as_long}
-use Rattle.opening.specs.Marks.{is_two, two_yes, two_no, two-ones}
+use Rattle.labels.specs.Marking.{Joining}
+use Rattle.opening.specs.Marks.{is_two}
 use Rattle.opening.proofs.add_twos.Given as goal
 
 abbrev pub invariant-loop-k : goal.invariant-loop-k

@@ -1,12 +1,9 @@
 -- `opening::by_least` meets its contract: the columns passed have their numbers. Assumes nothing.
-use mathlib.Core.Path.{refl, ◌∙◌}
-use mathlib.Core.Logic.{⊎_elim}
+use mathlib.Core.Path.{refl}
 use Prim.Native.Nat.{◌-◌}
-use lib.ListN.{length}
 use native.Mathlib.Omega.{arith}
 use borrow.Author.Rules.{rules}
-use Rattle.labels.specs.Labs.{labs}
-use Rattle.opening.specs.Marks.{Numbering, number-start, number_in, number_at, number-none, number-next, number_end}
+use Rattle.opening.specs.Marks.{number-start, number_in, number_at, number-none, number-next, number_end}
 use Rattle.opening.proofs.by_least.Goals as goal
 use Rattle.opening.proofs.by_least.Goals.{then-a-ne0, else-a-ne0}
 
@@ -32,10 +29,10 @@ pub loop-c-preserved : goal.loop-c-preserved
 loop-c-preserved c =
     let i = c.loop-c.invariant in
     let t = c.loop-c-test.true in
-    elim c.if-a-ne0.branch
-      [ then-a-ne0 w ↦ rw (w.labels-is, w.least-is) (number-next i t w.if-a-ne0.true w.first_seen-n.ensures)
+    elim c.if-a-ne0.branch [
+      | then-a-ne0 w ↦ rw (w.labels-is, w.least-is) (number-next i t w.if-a-ne0.true w.first_seen-n.ensures)
       | else-a-ne0 w ↦ rw (w.labels-is, w.least-is) (number-none i t w.if-a-ne0.false)
-      ]
+    ]
 
 pub returns : goal.returns
 returns c = number_end c.loop-c.invariant c.loop-c-test.false c.requires.2

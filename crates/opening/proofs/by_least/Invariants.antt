@@ -1,12 +1,8 @@
 -- `opening::by_least` meets its contract: the columns passed have their numbers. Assumes nothing.
-use mathlib.Core.Path.{refl, ◌∙◌}
-use mathlib.Core.Logic.{⊎_elim}
 use Prim.Native.Nat.{◌-◌}
 use lib.ListN.{length}
-use native.Mathlib.Omega.{arith}
-use borrow.Author.Rules.{rules}
 use Rattle.labels.specs.Labs.{labs}
-use Rattle.opening.specs.Marks.{Numbering, number-start, number_in, number_at, number-none, number-next, number_end}
+use Rattle.opening.specs.Marks.{Numbering}
 use Rattle.opening.proofs.by_least.Given as goal
 
 abbrev pub invariant-loop-c : goal.invariant-loop-c

@@ -1,15 +1,14 @@
 -- `opening::figures` meets its contract: the figures' parts, put together. Assumes nothing.
 use native.Mathlib.Omega.{arith}
-use borrow.Author.Rules.{rules}
 use Rattle.opening.specs.Opened.{lent_columns, lent_rows, lent_degrees, lent_given}
 use Rattle.opening.proofs.figures.Goals as goal
 
 pub counts-requires : goal.counts-requires
 counts-requires c = let t = c.requires in
-      record {
-        l_in_bounds = t.matrix;
-        under = lent_columns t;
-      }
+    record {
+      l_in_bounds = t.matrix;
+      under = lent_columns t;
+    }
 
 pub degrees-requires : goal.degrees-requires
 degrees-requires c = omega (arith, c.requires.measured, c.counts.ensures.long)

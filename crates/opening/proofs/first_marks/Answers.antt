@@ -1,7 +1,6 @@
 -- `opening::first_marks` meets its contract: no labels, then the pairs, then the numbers. Assumes nothing.
-use mathlib.Core.Path.{refl, ◌∙◌}
+use mathlib.Core.Path.{refl}
 use native.Mathlib.Omega.{arith}
-use borrow.Author.Rules.{rules}
 use Rattle.opening.specs.Marks.{blank_ready, given_columns, given_long, given_upto, given_low, given_outside, given_marked}
 use Rattle.opening.proofs.first_marks.Goals as goal
 

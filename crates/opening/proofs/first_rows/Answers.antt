@@ -1,10 +1,6 @@
 -- `opening::first_rows` meets its contract: one octet row after another is exchanged. Assumes nothing.
-use mathlib.Core.Path.{◌∙◌}
 use Prim.Native.Nat.{◌-◌}
-use lib.ListN.{length}
-use native.Mathlib.Omega.{arith}
-use borrow.Author.Rules.{rules}
-use Rattle.opening.specs.Rows.{Exchanging, exchange_start, exchange_next, exchange_within, exchange_end}
+use Rattle.opening.specs.Rows.{exchange_start, exchange_next, exchange_within, exchange_end}
 use Rattle.opening.proofs.first_rows.Goals as goal
 
 pub loop-j-init : goal.loop-j-init

@@ -1,10 +1,7 @@
 -- `opening::first_rows` meets its contract: one octet row after another is exchanged. Assumes nothing.
-use mathlib.Core.Path.{◌∙◌}
 use Prim.Native.Nat.{◌-◌}
 use lib.ListN.{length}
-use native.Mathlib.Omega.{arith}
-use borrow.Author.Rules.{rules}
-use Rattle.opening.specs.Rows.{Exchanging, exchange_start, exchange_next, exchange_within, exchange_end}
+use Rattle.opening.specs.Rows.{Exchanging}
 use Rattle.opening.proofs.first_rows.Given as goal
 
 abbrev pub invariant-loop-j : goal.invariant-loop-j

@@ -1,5 +1,4 @@
 -- `opening::first_seen` meets its contract. Assumes nothing.
-use borrow.Author.Rules.{rules}
 use Rattle.opening.specs.Marks.{seen-new, seen_old}
 use Rattle.opening.proofs.first_seen.Goals as goal
 

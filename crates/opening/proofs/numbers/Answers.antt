@@ -1,9 +1,7 @@
 -- `opening::numbers` meets its contract: the list is made from the front. Assumes nothing.
 use Prim.Native.Nat.{◌-◌}
 use lib.ListN.{length}
-use borrow.Author.Rules.{rules}
-use Rattle.loops.specs.Front.{Front, begin, turn, end}
-use Rattle.phases.specs.System.{range}
+use Rattle.loops.specs.Front.{begin, turn, end}
 use Rattle.phases.specs.Matrix.{length-range}
 use Rattle.opening.specs.Rows.{number_at}
 use Rattle.opening.proofs.numbers.Goals as goal

@@ -1,5 +1,4 @@
 -- `opening::start` meets its contract: the order, then the figures. Assumes nothing.
-use borrow.Author.Rules.{rules}
 use Rattle.opening.specs.Opened.{opens_lent, opened}
 use Rattle.opening.proofs.start.Goals as goal
 

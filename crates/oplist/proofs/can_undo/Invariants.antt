@@ -1,13 +1,9 @@
 -- `oplist::can_undo` meets its contract: what is left to look at decides the same. Assumes nothing.
-use Prim.Native.Nat.{ℕ, ◌-◌}
-use mathlib.Core.Path.{◌≡◌, refl, sym, ap, ◌∙◌}
-use mathlib.Core.List.{List}
-use borrow.Author.Rules.{rules}
-use borrow.Author.Tests.{not-true, not-false}
-use lib.ListN.{length, drop, drop_of_length-le}
+use Prim.Native.Nat.{◌-◌}
+use mathlib.Core.Path.{◌≡◌}
+use lib.ListN.{length, drop}
 use Rattle.oplist.specs.Listed.{ops_of}
 use Rattle.oplist.specs.Check.{undoable}
-use Rattle.oplist.specs.Facts.{undoable-drop}
 use Rattle.oplist.proofs.can_undo.Given as goal
 
 abbrev pub invariant-loop-k : goal.invariant-loop-k

@@ -1,11 +1,8 @@
 -- `oplist::list_fine` meets its contract: what is left to look at decides the same. Assumes nothing.
 use Prim.Native.Nat.{◌-◌}
-use mathlib.Core.Path.{◌≡◌, refl, sym, ap, ◌∙◌}
-use borrow.Author.Rules.{rules}
-use borrow.Author.Tests.{not-true, not-false}
-use lib.ListN.{length, drop, drop_of_length-le}
+use mathlib.Core.Path.{◌≡◌}
+use lib.ListN.{length, drop}
 use Rattle.oplist.specs.Check.{list_fine}
-use Rattle.oplist.specs.Facts.{list_fine-drop}
 use Rattle.oplist.proofs.list_fine.Given as goal
 
 abbrev pub invariant-loop-k : goal.invariant-loop-k

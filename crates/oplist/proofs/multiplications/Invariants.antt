@@ -1,13 +1,9 @@
 -- `oplist::multiplications` meets its contract: what was counted and what is left to count make the whole. Assumes nothing.
-use Prim.Native.Nat.{ℕ, ◌+◌, ◌-◌, ◌≤◌}
-use mathlib.Core.Path.{◌≡◌, ap}
-use mathlib.Core.List.{List}
-use native.Mathlib.Omega.{arith}
-use borrow.Author.Rules.{rules}
-use lib.ListN.{length, get_or, drop, drop_of_length-le}
-use Rattle.oplist.specs.Word.{meaning}
+use Prim.Native.Nat.{◌+◌, ◌-◌, ◌≤◌}
+use mathlib.Core.Path.{◌≡◌}
+use lib.ListN.{length, drop}
 use Rattle.oplist.specs.Listed.{ops_of}
-use Rattle.oplist.specs.Count.{muls, muls-next, word_muls-one}
+use Rattle.oplist.specs.Count.{muls}
 use Rattle.oplist.proofs.multiplications.Given as goal
 
 abbrev pub invariant-loop-k : goal.invariant-loop-k

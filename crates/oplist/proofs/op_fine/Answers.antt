@@ -1,5 +1,4 @@
 -- `oplist::op_fine` meets its contract: each kind is a case of the definition. Assumes nothing.
-use borrow.Author.Rules.{rules}
 use Rattle.oplist.specs.Check.{op_fine}
 use Rattle.oplist.proofs.op_fine.Goals as goal
 

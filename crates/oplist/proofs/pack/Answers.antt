@@ -1,7 +1,6 @@
 -- `oplist::pack` meets its contract: each kind's fields fit their places. Assumes nothing.
 use mathlib.Core.Path.{subst}
 use native.Mathlib.Omega.{arith}
-use borrow.Author.Rules.{rules}
 use Rattle.oplist.specs.Word.{Small, packed}
 use Rattle.oplist.proofs.pack.Goals as goal
 

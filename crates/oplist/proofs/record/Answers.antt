@@ -1,5 +1,4 @@
 -- `oplist::record` meets its contract: there is room for one word more, or the count stays one above the room. Assumes nothing.
-use borrow.Author.Rules.{rules}
 use borrow.Author.Tests.{lt-ltb, le-ltb}
 use Rattle.loops.specs.Room.{put}
 use Rattle.oplist.proofs.record.Goals as goal

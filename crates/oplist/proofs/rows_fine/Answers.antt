@@ -1,10 +1,6 @@
 -- `oplist::rows_fine` meets its contract: what is left to look at decides the same. Assumes nothing.
-use Prim.Native.Nat.{◌-◌}
-use mathlib.Core.Path.{◌≡◌, refl, sym, ◌∙◌}
-use borrow.Author.Rules.{rules}
-use lib.ListN.{length, drop}
+use mathlib.Core.Path.{refl, sym, ◌∙◌}
 use Rattle.oplist.specs.Facts.{rows_high, rows_twice, rows_next, rows-over}
-use Rattle.oplist.specs.Check.{rows_fine}
 use Rattle.oplist.proofs.rows_fine.Goals as goal
 
 pub loop-k-init : goal.loop-k-init

@@ -1,10 +1,6 @@
 -- `oplist::stands` meets its contract: what is left to look at decides the same. Assumes nothing.
-use Prim.Native.Nat.{◌-◌}
-use mathlib.Core.Path.{◌≡◌, refl}
-use borrow.Author.Rules.{rules}
-use lib.ListN.{length, drop}
+use mathlib.Core.Path.{refl}
 use Rattle.oplist.specs.Facts.{has_hit, has_miss, has-over}
-use Rattle.oplist.specs.Check.{has}
 use Rattle.oplist.proofs.stands.Goals as goal
 
 pub loop-k-init : goal.loop-k-init

@@ -1,5 +1,4 @@
 -- `oplist::unpack` meets its contract: each way out is a case of the definition. Assumes nothing.
-use borrow.Author.Rules.{rules}
 use borrow.Author.Tests.{eq-eqb, ne_eqb}
 use Rattle.oplist.specs.Word.{meaning}
 use Rattle.oplist.proofs.unpack.Goals as goal

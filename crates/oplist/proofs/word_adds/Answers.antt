@@ -1,6 +1,5 @@
 -- `oplist::word_adds` meets its contract: each kind of word is a case of the definition. Assumes nothing.
 use mathlib.Core.Path.{sym, ap, ◌∙◌}
-use borrow.Author.Rules.{rules}
 use Rattle.oplist.specs.Count.{word_adds}
 use Rattle.oplist.proofs.word_adds.Goals as goal
 

@@ -1,6 +1,5 @@
 -- `oplist::word_fine` meets its contract: each case of a word is one of the definition. Assumes nothing.
 use mathlib.Core.Path.{sym, ap, ◌∙◌}
-use borrow.Author.Rules.{rules}
 use Rattle.oplist.specs.Check.{word_fine}
 use Rattle.oplist.proofs.word_fine.Goals as goal
 

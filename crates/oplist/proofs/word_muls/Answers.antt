@@ -1,6 +1,5 @@
 -- `oplist::word_muls` meets its contract: each kind of word is a case of the definition. Assumes nothing.
 use mathlib.Core.Path.{sym, ap, ◌∙◌}
-use borrow.Author.Rules.{rules}
 use Rattle.oplist.specs.Count.{word_muls}
 use Rattle.oplist.proofs.word_muls.Goals as goal
 

@@ -1,6 +1,5 @@
 -- `oplist::word_undoable` meets its contract: each kind is a case of the definition. Assumes nothing.
 use mathlib.Core.Path.{sym, ap, ◌∙◌}
-use borrow.Author.Rules.{rules}
 use Rattle.oplist.specs.Check.{word_undoable, op_undoable}
 use Rattle.oplist.proofs.word_undoable.Goals as goal
 

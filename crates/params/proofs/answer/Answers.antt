@@ -1,6 +1,6 @@
 -- `params::answer` meets its contract: the digits are the figures. Assumes nothing.
 use mathlib.Core.Path.{sym, ◌∙◌}
-use borrow.Author.Rules.{rules, Fits-under}
+use borrow.Author.Rules.{Fits-under}
 use Rattle.params.specs.Answers.{answer-found, answer_long}
 use Rattle.params.proofs.Packing.{front_small, packed_none, packed-some}
 use Rattle.params.proofs.answer.Goals as goal

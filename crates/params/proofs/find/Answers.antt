@@ -1,9 +1,6 @@
 -- `params::find` meets its contract: what is to be found stands from i on. Assumes nothing.
-use mathlib.Core.Path.{◌≡◌, refl, sym, ◌∙◌}
-use Prim.Native.Nat.{◌≤◌, ◌-◌}
+use mathlib.Core.Path.{refl, sym, ◌∙◌}
 use borrow.Author.Rules.{rules}
-use lib.ListN.{length, drop}
-use Rattle.params.specs.Packed.{scan}
 use Rattle.params.proofs.Packing.{scan_hit, scan_miss, scan-over}
 use Rattle.params.proofs.find.Goals as goal
 

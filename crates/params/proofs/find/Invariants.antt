@@ -1,10 +1,8 @@
 -- `params::find` meets its contract: what is to be found stands from i on. Assumes nothing.
-use mathlib.Core.Path.{◌≡◌, refl, sym, ◌∙◌}
+use mathlib.Core.Path.{◌≡◌}
 use Prim.Native.Nat.{◌≤◌, ◌-◌}
-use borrow.Author.Rules.{rules}
 use lib.ListN.{length, drop}
 use Rattle.params.specs.Packed.{scan}
-use Rattle.params.proofs.Packing.{scan_hit, scan_miss, scan-over}
 use Rattle.params.proofs.find.Given as goal
 
 abbrev pub invariant-loop-i : goal.invariant-loop-i

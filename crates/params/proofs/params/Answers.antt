@@ -1,6 +1,5 @@
 -- `params::params` meets its contract: the code's table is the table, packed. Assumes nothing.
 use mathlib.Core.Path.{sym, ap, ◌∙◌, subst}
-use borrow.Author.Rules.{rules}
 use Rattle.params.specs.Table.{table}
 use Rattle.params.specs.Packed.{packed_answer, Packed}
 use Rattle.params.specs.Answers.{at_zero, at_some, answered}

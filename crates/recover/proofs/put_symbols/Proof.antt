@@ -1,7 +1,6 @@
 -- `put_symbols` is safe and ends. Assumes nothing.
 use Prim.Native.Nat.{◌-◌}
 use lib.ListN.{length}
-use native.Mathlib.Omega.{arith}
 use borrow.Author.Rules.{rules}
 use Rattle.recover.proofs.put_symbols.Statement.{statement}
 use Rattle.recover.proofs.put_symbols.Tie as tie

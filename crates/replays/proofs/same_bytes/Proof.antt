@@ -1,7 +1,6 @@
 -- `same_bytes` is safe and ends. Assumes nothing.
 use Prim.Native.Nat.{◌-◌}
 use lib.ListN.{length}
-use native.Mathlib.Omega.{arith}
 use borrow.Author.Rules.{rules}
 use Rattle.replays.proofs.same_bytes.Statement.{statement}
 use Rattle.replays.proofs.same_bytes.Tie as tie

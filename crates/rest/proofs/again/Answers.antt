@@ -2,7 +2,6 @@
 use mathlib.Core.Path.{sym, ◌∙◌}
 use native.Mathlib.Omega.{arith}
 use Rattle.rest.specs.Again.{word_unknown, word_small, word_marked, word-noted, word-left}
-use borrow.Author.Rules.{rules}
 use Rattle.rest.proofs.again.Goals as goal
 
 pub offset_bounds-marks-y : goal.offset_bounds-marks-y
@@ -13,10 +12,10 @@ bounds-marks-y c = omega (arith, word_marked c.requires (sym c.unpack-w.ensures 
 
 pub record-requires : goal.record-requires
 record-requires c =
-      record {
-        small = word_small c.requires (sym c.unpack-w.ensures ∙ c.in-Known.is);
-        fair = c.requires.fair;
-      }
+    record {
+      small = word_small c.requires (sym c.unpack-w.ensures ∙ c.in-Known.is);
+      fair = c.requires.fair;
+    }
 
 pub returns-in-Unknown : goal.returns-in-Unknown
 returns-in-Unknown c = word_unknown c.requires (sym c.unpack-w.ensures ∙ c.in-Unknown.is)

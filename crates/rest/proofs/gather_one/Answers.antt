@@ -1,6 +1,5 @@
 -- `rest::gather_one` meets its contract: the entry is a one, or it is not. Assumes nothing.
 use Rattle.rest.specs.Gather.{one-noted, one_left}
-use borrow.Author.Rules.{rules}
 use Rattle.rest.proofs.gather_one.Goals as goal
 
 pub has-requires : goal.has-requires
@@ -8,10 +7,10 @@ has-requires c = (c.requires.inside, c.requires.column)
 
 pub record-requires : goal.record-requires
 record-requires c =
-      record {
-        small = (c.requires.small, c.requires.few);
-        fair = c.requires.fair;
-      }
+    record {
+      small = (c.requires.small, c.requires.few);
+      fair = c.requires.fair;
+    }
 
 pub returns-then-has : goal.returns-then-has
 returns-then-has c = one-noted c.requires c.has.ensures c.if-has.true c.record.ensures

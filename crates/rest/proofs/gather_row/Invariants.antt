@@ -1,10 +1,8 @@
 -- `rest::gather_row` meets its contract: the row has what it gets up to a place. Assumes nothing.
 use Prim.Native.Nat.{◌-◌}
 use lib.ListN.{length}
-use native.Mathlib.Omega.{arith}
 use Rattle.tally.specs.Book.{book}
-use Rattle.rest.specs.Gather.{Passing, passing_start, passing_one, passing_next, passing_length, passing_end}
-use borrow.Author.Rules.{rules}
+use Rattle.rest.specs.Gather.{Passing}
 use Rattle.rest.proofs.gather_row.Given as goal
 
 abbrev pub invariant-loop-k : goal.invariant-loop-k

@@ -1,9 +1,7 @@
 -- `rest::mark` meets its contract: the rows from a place on are marked. Assumes nothing.
 use Prim.Native.Nat.{◌-◌}
 use lib.ListN.{length}
-use native.Mathlib.Omega.{arith}
-use Rattle.rest.specs.Marks.{Marking, marking_start, marking_next, marking_end}
-use borrow.Author.Rules.{rules}
+use Rattle.rest.specs.Marks.{Marking}
 use Rattle.rest.proofs.mark.Given as goal
 
 abbrev pub invariant-loop-k : goal.invariant-loop-k

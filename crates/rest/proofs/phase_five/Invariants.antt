@@ -1,9 +1,7 @@
 -- `rest::phase_five` meets its contract. Assumes nothing.
 use Prim.Native.Nat.{◌-◌}
-use native.Mathlib.Omega.{arith}
 use Rattle.tally.specs.Book.{book}
-use Rattle.rest.specs.Again.{Rising, rising_start, rising_word, rising_next, rising_length, rising_done}
-use borrow.Author.Rules.{rules}
+use Rattle.rest.specs.Again.{Rising}
 use Rattle.rest.proofs.phase_five.Given as goal
 
 abbrev pub invariant-loop-k : goal.invariant-loop-k

@@ -1,9 +1,7 @@
 -- `rest::phase_four` meets its contract: the chosen rows up to a place have what they get. Assumes nothing.
 use Prim.Native.Nat.{◌-◌}
-use native.Mathlib.Omega.{arith}
 use Rattle.tally.specs.Book.{book}
-use Rattle.rest.specs.Gather.{Choosing, choosing_start, choosing_row, choosing_next, choosing_length, choosing_done}
-use borrow.Author.Rules.{rules}
+use Rattle.rest.specs.Gather.{Choosing}
 use Rattle.rest.proofs.phase_four.Given as goal
 
 abbrev pub invariant-loop-p : goal.invariant-loop-p

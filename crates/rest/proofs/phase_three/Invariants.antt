@@ -1,8 +1,6 @@
 -- `rest::phase_three` meets its contract. Assumes nothing.
-use native.Mathlib.Omega.{arith}
 use Rattle.tally.specs.Book.{book}
-use Rattle.rest.specs.Again.{Falling, falling_start, falling_word, falling_next, falling_length, falling_done}
-use borrow.Author.Rules.{rules}
+use Rattle.rest.specs.Again.{Falling}
 use Rattle.rest.proofs.phase_three.Given as goal
 
 abbrev pub invariant-loop-k : goal.invariant-loop-k

@@ -2,7 +2,6 @@
 use Prim.Native.Nat.{◌+◌, ◌-◌, ◌*◌}
 use native.Mathlib.Omega.{arith}
 use Rattle.rest.specs.Vector.{valuing_part, valuing_value}
-use borrow.Author.Rules.{rules}
 use Rattle.rest.proofs.row_value.Goals as goal
 
 pub weigh_row-requires : goal.weigh_row-requires

@@ -1,8 +1,5 @@
 -- `rest::vector_of` meets its contract: the values from a place on are in the vector. Assumes nothing.
-use native.Mathlib.Omega.{arith}
-use lib.ListN.{get_or, length-set}
-use Rattle.rest.specs.Vector.{Substituting, last-column, substituting_start, substituting_column, substituting_value, substituting_next, substituting_done}
-use borrow.Author.Rules.{rules}
+use Rattle.rest.specs.Vector.{Substituting}
 use Rattle.rest.proofs.vector_of.Given as goal
 
 abbrev pub invariant-loop-p : goal.invariant-loop-p

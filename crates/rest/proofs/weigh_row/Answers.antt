@@ -1,7 +1,6 @@
 -- `rest::weigh_row` meets its contract: the products from a place on are summed. Assumes nothing.
 use native.Mathlib.Omega.{arith}
-use Rattle.rest.specs.Vector.{Weighed, weighed_start, weighed_next, weighed_end}
-use borrow.Author.Rules.{rules}
+use Rattle.rest.specs.Vector.{weighed_start, weighed_next, weighed_end}
 use Rattle.rest.proofs.weigh_row.Goals as goal
 
 pub loop-k-init : goal.loop-k-init

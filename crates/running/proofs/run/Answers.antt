@@ -5,11 +5,11 @@ use Rattle.running.proofs.run.Goals as goal
 
 pub phase_one-requires : goal.phase_one-requires
 phase_one-requires c =
-      record {
-        given = given_is _ _ _ c.requires.posed (λ i. (c.shared_slice_known-1.given i).fits) (λ i. (c.shared_slice_known-2-1.given i).fits);
-        lent = lent_is _ _ _ c.requires.posed (λ i. (c.shared_slice_known-1.given i).fits) (λ i. (c.shared_slice_known-2-1.given i).fits) _ _ _ c.requires.cut;
-        fair = fair_unused _;
-      }
+    record {
+      given = given_is _ _ _ c.requires.posed (λ i. (c.shared_slice_known-1.given i).fits) (λ i. (c.shared_slice_known-2-1.given i).fits);
+      lent = lent_is _ _ _ c.requires.posed (λ i. (c.shared_slice_known-1.given i).fits) (λ i. (c.shared_slice_known-2-1.given i).fits) _ _ _ c.requires.cut;
+      fair = fair_unused _;
+    }
 
 pub returns-then-list-used : goal.returns-then-list-used
 returns-then-list-used c =
@@ -24,22 +24,22 @@ returns-then-list-used-2 c =
 pub go_on-requires : goal.go_on-requires
 go_on-requires c =
     let o = outcome-at _ _ _ _ _ _ _ _ c.in-Done.is c.phase_one.ensures in
-      record {
-        posed = c.requires.posed;
-        first = first-is _ _ _ c.requires.posed (λ i. (c.shared_slice_known-1.given i).fits) (λ i. (c.shared_slice_known-2-1.given i).fits) refl o.0 o.1 o.2;
-        going = record {
-          columns_size = c.phase_one.auto.c ∙ c.requires.cut.columns_size;
-          rows-size = c.phase_one.auto.d ∙ c.requires.cut.rows-size;
-          work_size = c.requires.cut.work_size;
-          scratch_size = c.requires.cut.scratch_size;
-          marks_size = c.phase_one.auto.s ∙ c.requires.cut.singles_size;
-          order-room = room-kept c.numbers.auto.s c.requires.cut.order-room;
-          vector_room = room-kept c.bytes.auto.s c.requires.cut.vector_room;
-          order-blank = blank_again _ _ c.numbers.ensures;
-          vector_blank = blank_again _ _ c.bytes.ensures;
-          held = c.if-list-used-2.false;
-        };
-      }
+    record {
+      posed = c.requires.posed;
+      first = first-is _ _ _ c.requires.posed (λ i. (c.shared_slice_known-1.given i).fits) (λ i. (c.shared_slice_known-2-1.given i).fits) refl o.0 o.1 o.2;
+      going = record {
+        columns_size = c.phase_one.auto.c ∙ c.requires.cut.columns_size;
+        rows-size = c.phase_one.auto.d ∙ c.requires.cut.rows-size;
+        work_size = c.requires.cut.work_size;
+        scratch_size = c.requires.cut.scratch_size;
+        marks_size = c.phase_one.auto.s ∙ c.requires.cut.singles_size;
+        order-room = room-kept c.numbers.auto.s c.requires.cut.order-room;
+        vector_room = room-kept c.bytes.auto.s c.requires.cut.vector_room;
+        order-blank = blank_again _ _ c.numbers.ensures;
+        vector_blank = blank_again _ _ c.bytes.ensures;
+        held = c.if-list-used-2.false;
+      };
+    }
 
 pub returns-else-list-used : goal.returns-else-list-used
 returns-else-list-used c =

@@ -2,7 +2,7 @@
 use Prim.Native.Nat.{zero-le}
 use native.Mathlib.Omega.{arith}
 use Rattle.answers.specs.Rooms.{small_product}
-use Rattle.running.specs.Cuts.{cut-is, put_same}
+use Rattle.running.specs.Cuts.{cut-is}
 use Rattle.running.proofs.run_within.Goals as goal
 
 pub overflow_mul-e : goal.overflow_mul-e
@@ -97,10 +97,10 @@ slice_bounds-run-end-9 c = c.requires.roomed.sizes-room
 
 pub run-requires : goal.run-requires
 run-requires c =
-      record {
-        posed = c.requires.posed;
-        cut = cut-is _ _ _ _ c.requires.roomed;
-      }
+    record {
+      posed = c.requires.posed;
+      cut = cut-is _ _ _ _ c.requires.roomed;
+    }
 
 pub returns : goal.returns
 returns c = c.run.ensures

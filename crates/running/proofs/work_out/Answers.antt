@@ -5,10 +5,10 @@ use Rattle.running.proofs.work_out.Goals as goal
 
 pub run_within-a-requires : goal.run_within-a-requires
 run_within-a-requires c =
-      record {
-        posed = c.requires.posed;
-        roomed = c.requires.roomed;
-      }
+    record {
+      posed = c.requires.posed;
+      roomed = c.requires.roomed;
+    }
 
 pub returns : goal.returns
 returns c =

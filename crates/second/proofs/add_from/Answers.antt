@@ -7,7 +7,6 @@ use lib.Seq.{take_at}
 use Rattle.octets.specs.Rows.{add_row}
 use Rattle.second.specs.Store.{store_of, act-add}
 use native.Mathlib.Omega.{arith}
-use borrow.Author.Rules.{rules}
 use Rattle.second.proofs.add_from.Goals as goal
 
 pub returns : goal.returns

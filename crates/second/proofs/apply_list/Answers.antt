@@ -1,11 +1,8 @@
 -- `second::apply_list` meets its contract. The invariant: what is left of the list makes the whole from here. Assumes nothing.
-use mathlib.Core.Path.{◌≡◌, refl}
-use Prim.Native.Nat.{◌-◌, ◌≤◌}
-use lib.ListN.{length}
-use Rattle.second.specs.Store.{Rooms}
-use Rattle.second.specs.Listed.{Applying, applying_start, applying_within, applying_next, applying_end}
+use mathlib.Core.Path.{refl}
+use Prim.Native.Nat.{◌-◌}
+use Rattle.second.specs.Listed.{applying_start, applying_within, applying_next, applying_end}
 use native.Mathlib.Omega.{arith}
-use borrow.Author.Rules.{rules}
 use Rattle.second.proofs.apply_list.Goals as goal
 
 pub loop-k-init : goal.loop-k-init
@@ -13,10 +10,10 @@ loop-k-init c = (c.requires.rooms, refl, refl, omega arith, applying_start c.req
 
 pub apply_word-requires : goal.apply_word-requires
 apply_word-requires c =
-      record {
-        rooms = c.loop-k.invariant.0;
-        each = applying_within c.loop-k.invariant.4 c.loop-k-test.true;
-      }
+    record {
+      rooms = c.loop-k.invariant.0;
+      each = applying_within c.loop-k.invariant.4 c.loop-k-test.true;
+    }
 
 pub loop-k-preserved : goal.loop-k-preserved
 loop-k-preserved c =

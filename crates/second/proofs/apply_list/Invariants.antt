@@ -1,11 +1,9 @@
 -- `second::apply_list` meets its contract. The invariant: what is left of the list makes the whole from here. Assumes nothing.
-use mathlib.Core.Path.{◌≡◌, refl}
+use mathlib.Core.Path.{◌≡◌}
 use Prim.Native.Nat.{◌-◌, ◌≤◌}
 use lib.ListN.{length}
 use Rattle.second.specs.Store.{Rooms}
-use Rattle.second.specs.Listed.{Applying, applying_start, applying_within, applying_next, applying_end}
-use native.Mathlib.Omega.{arith}
-use borrow.Author.Rules.{rules}
+use Rattle.second.specs.Listed.{Applying}
 use Rattle.second.proofs.apply_list.Given as goal
 
 abbrev pub invariant-loop-k : goal.invariant-loop-k

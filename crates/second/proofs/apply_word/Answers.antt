@@ -4,15 +4,14 @@ use mathlib.Core.List.{[]}
 use Rattle.oplist.specs.declared.Word.{Word}
 use Rattle.oplist.specs.Ops.{Within, Each}
 use Rattle.oplist.specs.Listed.{with_op}
-use borrow.Author.Rules.{rules}
 use Rattle.second.proofs.apply_word.Goals as goal
 
 pub apply-requires : goal.apply-requires
 apply-requires c =
-      record {
-        rooms = c.requires.rooms;
-        within = (subst (λ (v : Word). Each (Within c.args.m) (with_op v [])) (sym c.unpack.ensures ∙ c.in-Known.is) c.requires.each).0;
-      }
+    record {
+      rooms = c.requires.rooms;
+      within = (subst (λ (v : Word). Each (Within c.args.m) (with_op v [])) (sym c.unpack.ensures ∙ c.in-Known.is) c.requires.each).0;
+    }
 
 pub returns-in-Known : goal.returns-in-Known
 returns-in-Known c = rw (sym c.unpack.ensures ∙ c.in-Known.is) c.apply.ensures

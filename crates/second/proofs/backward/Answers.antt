@@ -1,12 +1,10 @@
 -- `second::backward` meets its contract. The invariant: what is left to be noted from here makes the whole. Assumes nothing.
 use mathlib.Core.Path.{◌≡◌, refl}
 use Prim.Native.Nat.{◌+◌, ◌-◌, ◌≤◌, ◌<◌}
-use lib.ListN.{length, take, drop}
-use Rattle.tally.specs.Book.{book, Fair}
+use lib.ListN.{length}
 use Rattle.second.specs.Store.{store_of}
-use Rattle.second.specs.Backward.{Backing, cleared_fair, part-rows, back-next, back_end}
+use Rattle.second.specs.Backward.{cleared_fair, part-rows, back-next, back_end}
 use native.Mathlib.Omega.{arith}
-use borrow.Author.Rules.{rules}
 use Rattle.second.proofs.backward.Goals as goal
 
 pub loop-e-init : goal.loop-e-init
@@ -21,8 +19,8 @@ clear_above-r-requires c =
     let n : length a.d.now ≡ a.m = c.requires.order.size in
     let u : o.e ≤ a.l = c.loop-e.invariant.1 in
     let v : a.l ≤ a.m = c.requires.wide in
-      record {
-        above = record {
+    record {
+      above = record {
         store = p.store;
         few = p.few;
         from = omega arith;
@@ -30,8 +28,8 @@ clear_above-r-requires c =
         by = p.order.rows.below (o.e - 1) (omega arith);
         rows = part-rows a.m a.i (o.e - 1 - a.i) a.d.now p.order.rows (omega arith);
       };
-        fair = o.invariant.3;
-      }
+      fair = o.invariant.3;
+    }
 
 pub loop-e-preserved : goal.loop-e-preserved
 loop-e-preserved c =

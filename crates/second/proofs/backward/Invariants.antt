@@ -1,12 +1,10 @@
 -- `second::backward` meets its contract. The invariant: what is left to be noted from here makes the whole. Assumes nothing.
-use mathlib.Core.Path.{◌≡◌, refl}
-use Prim.Native.Nat.{◌+◌, ◌-◌, ◌≤◌, ◌<◌}
+use mathlib.Core.Path.{◌≡◌}
+use Prim.Native.Nat.{◌-◌, ◌≤◌}
 use lib.ListN.{length, take, drop}
 use Rattle.tally.specs.Book.{book, Fair}
 use Rattle.second.specs.Store.{store_of}
-use Rattle.second.specs.Backward.{Backing, cleared_fair, part-rows, back-next, back_end}
-use native.Mathlib.Omega.{arith}
-use borrow.Author.Rules.{rules}
+use Rattle.second.specs.Backward.{Backing}
 use Rattle.second.proofs.backward.Given as goal
 
 abbrev pub invariant-loop-e : goal.invariant-loop-e

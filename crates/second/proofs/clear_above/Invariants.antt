@@ -1,16 +1,12 @@
 -- `second::clear_above` meets its contract. The invariant: for the rows passed the operations are noted. Assumes nothing.
-use mathlib.Core.Path.{◌≡◌, refl, ap}
-use mathlib.Core.List.{[]}
+use mathlib.Core.Path.{◌≡◌}
 use Prim.Native.Nat.{ℕ, ◌-◌, ◌≤◌}
-use lib.ListN.{length, get_or, take}
-use lib.Seq.{take_all}
-use Rattle.phases.specs.One.{entry, clears}
+use lib.ListN.{length, take}
+use Rattle.phases.specs.One.{clears}
 use Rattle.phases.specs.Two.{at}
 use Rattle.tally.specs.Book.{book}
 use Rattle.second.specs.Store.{store_of}
-use Rattle.second.specs.Backward.{Cleared, cleared_none, cleared_as, cleared_fair, above-next}
-use native.Mathlib.Omega.{arith}
-use borrow.Author.Rules.{rules}
+use Rattle.second.specs.Backward.{Cleared}
 use Rattle.second.proofs.clear_above.Given as goal
 
 abbrev pub invariant-loop-k : goal.invariant-loop-k

@@ -1,13 +1,12 @@
 -- `second::clear_below` meets its contract. The invariant: the rows passed are cleared, as often as the store at entry says. Assumes nothing.
-use mathlib.Core.Path.{◌≡◌, refl, ap}
-use Prim.Native.Nat.{ℕ, suc, ◌-◌, ◌≤◌, ◌<◌}
-use lib.ListN.{length, take}
+use mathlib.Core.Path.{refl, ap}
+use Prim.Native.Nat.{ℕ, suc, ◌-◌, ◌<◌}
+use lib.ListN.{length}
 use lib.Seq.{take_all}
 use Rattle.phases.specs.One.{clears}
 use Rattle.phases.specs.Two.{at}
-use Rattle.tally.specs.Book.{book}
-use Rattle.second.specs.Store.{store_of, Rooms}
-use Rattle.second.specs.Clear.{Performed, performed_none, performed_as, performed_fair, clear_next}
+use Rattle.second.specs.Store.{store_of}
+use Rattle.second.specs.Clear.{performed_none, performed_as, performed_fair, clear_next}
 use native.Mathlib.Omega.{arith}
 use borrow.Author.Rules.{rules}
 use Rattle.second.proofs.clear_below.Goals as goal
@@ -20,11 +19,11 @@ clear_row-r-requires c =
     let o = c.loop-k in
     let rows = c.requires.rows in
     let h : o.k < length c.args.ys.now = omega (arith, c.loop-k-test) in
-      record {
-        rooms = o.invariant.0;
-        fair = performed_fair o.invariant.5 c.requires.fair;
-        x_lt_m = (rows.below 0 (omega arith), rows.below (suc o.k) (omega arith), c.requires.i_le_q.0, c.requires.i_le_q.1);
-      }
+    record {
+      rooms = o.invariant.0;
+      fair = performed_fair o.invariant.5 c.requires.fair;
+      x_lt_m = (rows.below 0 (omega arith), rows.below (suc o.k) (omega arith), c.requires.i_le_q.0, c.requires.i_le_q.1);
+    }
 
 pub loop-k-preserved : goal.loop-k-preserved
 loop-k-preserved c =

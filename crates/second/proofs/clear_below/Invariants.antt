@@ -1,15 +1,12 @@
 -- `second::clear_below` meets its contract. The invariant: the rows passed are cleared, as often as the store at entry says. Assumes nothing.
-use mathlib.Core.Path.{◌≡◌, refl, ap}
-use Prim.Native.Nat.{ℕ, suc, ◌-◌, ◌≤◌, ◌<◌}
+use mathlib.Core.Path.{◌≡◌}
+use Prim.Native.Nat.{ℕ, ◌-◌, ◌≤◌}
 use lib.ListN.{length, take}
-use lib.Seq.{take_all}
 use Rattle.phases.specs.One.{clears}
 use Rattle.phases.specs.Two.{at}
 use Rattle.tally.specs.Book.{book}
 use Rattle.second.specs.Store.{store_of, Rooms}
-use Rattle.second.specs.Clear.{Performed, performed_none, performed_as, performed_fair, clear_next}
-use native.Mathlib.Omega.{arith}
-use borrow.Author.Rules.{rules}
+use Rattle.second.specs.Clear.{Performed}
 use Rattle.second.proofs.clear_below.Given as goal
 
 abbrev pub invariant-loop-k : goal.invariant-loop-k

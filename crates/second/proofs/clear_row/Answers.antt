@@ -20,11 +20,11 @@ perform-requires c =
     let f : Fit c.args.m c.multiple_of-op.result =
     rw c.multiple_of-op.ensures (fit_multiple _ c.read-c.result _ _ (omega (arith, c)) (omega (arith, c)) (omega (arith, c)) (omega (arith, c.read-c)))
     in
-      record {
-        rooms = search rules;
-        fair = search rules;
-        fit = f;
-      }
+    record {
+      rooms = search rules;
+      fair = search rules;
+      fit = f;
+    }
 
 pub returns : goal.returns
 returns c =

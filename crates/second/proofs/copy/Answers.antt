@@ -2,8 +2,7 @@
 use mathlib.Core.Path.{refl, sym}
 use Prim.Native.Nat.{◌-◌}
 use native.Mathlib.Omega.{arith}
-use lib.ListN.{length}
-use Rattle.loops.specs.Front.{Front, begin, turn, end}
+use Rattle.loops.specs.Front.{begin, turn, end}
 use Rattle.second.proofs.copy.Goals as goal
 
 pub loop-k-init : goal.loop-k-init

@@ -1,9 +1,7 @@
 -- `second::copy` meets its contract. The loop makes the copy from the front. Assumes nothing.
-use mathlib.Core.Path.{refl, sym}
 use Prim.Native.Nat.{◌-◌}
-use native.Mathlib.Omega.{arith}
 use lib.ListN.{length}
-use Rattle.loops.specs.Front.{Front, begin, turn, end}
+use Rattle.loops.specs.Front.{Front}
 use Rattle.second.proofs.copy.Given as goal
 
 abbrev pub invariant-loop-k : goal.invariant-loop-k

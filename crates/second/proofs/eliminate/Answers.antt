@@ -3,7 +3,6 @@ use Prim.Native.Nat.{◌-◌}
 use lib.ListN.{replicate, length-replicate}
 use Rattle.second.specs.Whole.{eliminated_fair, eliminated_done, eliminated_singular}
 use native.Mathlib.Omega.{arith}
-use borrow.Author.Rules.{rules}
 use Rattle.second.proofs.eliminate.Goals as goal
 
 pub backward-requires : goal.backward-requires

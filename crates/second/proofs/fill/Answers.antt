@@ -1,12 +1,8 @@
 -- `second::fill` meets its contract. The invariant: the rows passed are filled. Assumes nothing.
-use mathlib.Core.Path.{◌≡◌, refl}
-use mathlib.Core.List.{map}
-use Prim.Native.Nat.{ℕ, ◌-◌, ◌≤◌}
-use lib.ListN.{length}
-use Rattle.second.specs.Store.{Sized}
-use Rattle.second.specs.Fill.{entries, Filled, filled-start, filled_next, filled_end}
+use mathlib.Core.Path.{refl}
+use Prim.Native.Nat.{◌-◌}
+use Rattle.second.specs.Fill.{filled-start, filled_next, filled_end}
 use native.Mathlib.Omega.{arith}
-use borrow.Author.Rules.{rules}
 use Rattle.second.proofs.fill.Goals as goal
 
 pub loop-y-init : goal.loop-y-init
@@ -15,10 +11,10 @@ loop-y-init c = (c.requires.store, refl, omega arith, filled-start _)
 pub fill_combined-requires : goal.fill_combined-requires
 fill_combined-requires c =
     let p = c.requires in
-      record {
-        filling = record { store = c.loop-y.invariant.0; binary = p.binary; octet = p.octet; last = p.last; columns = p.columns; low = p.low };
-        y_lt_m = c.loop-y-test.true;
-      }
+    record {
+      filling = record { store = c.loop-y.invariant.0; binary = p.binary; octet = p.octet; last = p.last; columns = p.columns; low = p.low };
+      y_lt_m = c.loop-y-test.true;
+    }
 
 pub loop-y-preserved : goal.loop-y-preserved
 loop-y-preserved c =

@@ -1,12 +1,10 @@
 -- `second::fill` meets its contract. The invariant: the rows passed are filled. Assumes nothing.
-use mathlib.Core.Path.{◌≡◌, refl}
+use mathlib.Core.Path.{◌≡◌}
 use mathlib.Core.List.{map}
 use Prim.Native.Nat.{ℕ, ◌-◌, ◌≤◌}
 use lib.ListN.{length}
 use Rattle.second.specs.Store.{Sized}
-use Rattle.second.specs.Fill.{entries, Filled, filled-start, filled_next, filled_end}
-use native.Mathlib.Omega.{arith}
-use borrow.Author.Rules.{rules}
+use Rattle.second.specs.Fill.{entries, Filled}
 use Rattle.second.proofs.fill.Given as goal
 
 abbrev pub invariant-loop-y : goal.invariant-loop-y

@@ -4,18 +4,17 @@ use lib.ListN.{set}
 use Rattle.second.specs.Store.{store_of}
 use Rattle.second.specs.Fill.{entries-before, entries_octet, entries-after}
 use native.Mathlib.Omega.{arith}
-use borrow.Author.Rules.{rules}
 use Rattle.second.proofs.fill_combined.Goals as goal
 
 pub fill_row-requires : goal.fill_row-requires
 fill_row-requires c =
     let p = c.requires.filling in
-      record {
-        sized = p.store;
-        src_len = (p.binary, p.columns);
-        y_lt_m = (c.requires.y_lt_m, c.requires.y_lt_m);
-        by_index = p.low;
-      }
+    record {
+      sized = p.store;
+      src_len = (p.binary, p.columns);
+      y_lt_m = (c.requires.y_lt_m, c.requires.y_lt_m);
+      by_index = p.low;
+    }
 
 pub returns-then-y-s : goal.returns-then-y-s
 returns-then-y-s c =
@@ -26,12 +25,12 @@ returns-then-y-s c =
 pub fill_row-requires-then-y-s-2 : goal.fill_row-requires-then-y-s-2
 fill_row-requires-then-y-s-2 c =
     let p = c.requires.filling in
-      record {
-        sized = p.store;
-        src_len = (p.octet, p.columns);
-        y_lt_m = (c.requires.y_lt_m, omega (arith, c.if-y-s-2.true, c.if-y-s.false));
-        by_index = p.low;
-      }
+    record {
+      sized = p.store;
+      src_len = (p.octet, p.columns);
+      y_lt_m = (c.requires.y_lt_m, omega (arith, c.if-y-s-2.true, c.if-y-s.false));
+      by_index = p.low;
+    }
 
 pub returns-then-y-s-2 : goal.returns-then-y-s-2
 returns-then-y-s-2 c =
@@ -43,12 +42,12 @@ returns-then-y-s-2 c =
 pub fill_row-requires-2 : goal.fill_row-requires-2
 fill_row-requires-2 c =
     let p = c.requires.filling in
-      record {
-        sized = p.store;
-        src_len = (p.binary, p.columns);
-        y_lt_m = (c.requires.y_lt_m, c.requires.y_lt_m);
-        by_index = p.low;
-      }
+    record {
+      sized = p.store;
+      src_len = (p.binary, p.columns);
+      y_lt_m = (c.requires.y_lt_m, c.requires.y_lt_m);
+      by_index = p.low;
+    }
 
 pub returns : goal.returns
 returns c =

@@ -10,10 +10,10 @@ use Rattle.second.proofs.fill_row.Goals as goal
 
 pub gather-requires : goal.gather-requires
 gather-requires c =
-      record {
-        dest_len = search rules;
-        by_index = λ k h. let z = c.requires.by_index k h in omega (arith, c.cell-e.ensures, c.cell-p.ensures, c.gather-arg-2-1);
-      }
+    record {
+      dest_len = search rules;
+      by_index = λ k h. let z = c.requires.by_index k h in omega (arith, c.cell-e.ensures, c.cell-p.ensures, c.gather-arg-2-1);
+    }
 
 pub returns : goal.returns
 returns c =

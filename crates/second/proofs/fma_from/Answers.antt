@@ -7,7 +7,6 @@ use lib.Seq.{take_at}
 use Rattle.octets.specs.Rows.{fma_row}
 use Rattle.second.specs.Store.{store_of, act_fma}
 use native.Mathlib.Omega.{arith}
-use borrow.Author.Rules.{rules}
 use Rattle.second.proofs.fma_from.Goals as goal
 
 pub returns : goal.returns

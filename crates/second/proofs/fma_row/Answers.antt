@@ -4,7 +4,6 @@ use Prim.Native.Nat.{ℕ}
 use Rattle.octets.specs.Rows.{fma_row}
 use Rattle.second.specs.Store.{row_made}
 use native.Mathlib.Omega.{arith}
-use borrow.Author.Rules.{rules}
 use Rattle.second.proofs.fma_row.Goals as goal
 
 pub returns : goal.returns

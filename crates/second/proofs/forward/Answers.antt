@@ -1,17 +1,13 @@
 -- `second::forward` meets its contract. Over columns: the state is the definition's after as many turns, for any numbers of the columns. Over rows: the rows
 -- passed have a zero in the column. Assumes nothing.
-use mathlib.Core.Path.{◌≡◌, refl, sym, ◌∙◌}
-use mathlib.Core.List.{List, []}
-use Prim.Native.Nat.{ℕ, ◌-◌, ◌≤◌, ◌<◌}
-use lib.ListN.{length, drop}
-use Rattle.rule.specs.Lists.{filter, head}
-use Rattle.tally.specs.Book.{book}
+use mathlib.Core.Path.{refl, sym, ◌∙◌}
+use mathlib.Core.List.{[]}
+use Prim.Native.Nat.{◌-◌, ◌≤◌, ◌<◌}
+use lib.ListN.{length}
 use Rattle.second.specs.Store.{store_of}
 use Rattle.second.specs.Clear.{performed_fair}
-use Rattle.second.specs.Step.{Ready}
-use Rattle.second.specs.Forward.{nonzero, search_skip, search_here, search_none, Going, going_start, going_next, going_chosen, going_done, going_stuck}
+use Rattle.second.specs.Forward.{search_skip, search_here, search_none, going_start, going_next, going_chosen, going_done, going_stuck}
 use native.Mathlib.Omega.{arith}
-use borrow.Author.Rules.{rules}
 use Rattle.second.proofs.forward.Goals as goal
 
 pub columns-init : goal.columns-init
@@ -31,10 +27,10 @@ read-requires c =
     let p = c.rows in
     let n = c.columns.invariant.0.order.size in
     let h : p.p < c.args.m = omega (arith, c.if-p-m.false, p.invariant.1) in
-      record {
-        sized = o.0.rooms.store;
-        y_lt_m = (o.0.order.rows.below p.p (omega arith), o.1, omega (arith, c.if-q-l.false, o.2));
-      }
+    record {
+      sized = o.0.rooms.store;
+      y_lt_m = (o.0.order.rows.below p.p (omega arith), o.1, omega (arith, c.if-q-l.false, o.2));
+    }
 
 pub rows-preserved : goal.rows-preserved
 rows-preserved c =
@@ -49,10 +45,10 @@ pub pivot_step-r-requires : goal.pivot_step-r-requires
 pivot_step-r-requires c =
     let o = c.columns.invariant in
     let p = c.rows in
-      record {
-        ready = o.0;
-        i_le_q = (o.1, omega (arith, c.if-q-l.false, o.2), p.invariant.0, omega (arith, c.if-p-m.false, p.invariant.1));
-      }
+    record {
+      ready = o.0;
+      i_le_q = (o.1, omega (arith, c.if-q-l.false, o.2), p.invariant.0, omega (arith, c.if-p-m.false, p.invariant.1));
+    }
 
 pub columns-preserved : goal.columns-preserved
 columns-preserved c =

@@ -1,17 +1,14 @@
 -- `second::forward` meets its contract. Over columns: the state is the definition's after as many turns, for any numbers of the columns. Over rows: the rows
 -- passed have a zero in the column. Assumes nothing.
-use mathlib.Core.Path.{◌≡◌, refl, sym, ◌∙◌}
-use mathlib.Core.List.{List, []}
-use Prim.Native.Nat.{ℕ, ◌-◌, ◌≤◌, ◌<◌}
+use mathlib.Core.Path.{◌≡◌}
+use mathlib.Core.List.{List}
+use Prim.Native.Nat.{ℕ, ◌-◌, ◌≤◌}
 use lib.ListN.{length, drop}
 use Rattle.rule.specs.Lists.{filter, head}
 use Rattle.tally.specs.Book.{book}
 use Rattle.second.specs.Store.{store_of}
-use Rattle.second.specs.Clear.{performed_fair}
 use Rattle.second.specs.Step.{Ready}
-use Rattle.second.specs.Forward.{nonzero, search_skip, search_here, search_none, Going, going_start, going_next, going_chosen, going_done, going_stuck}
-use native.Mathlib.Omega.{arith}
-use borrow.Author.Rules.{rules}
+use Rattle.second.specs.Forward.{nonzero, Going}
 use Rattle.second.proofs.forward.Given as goal
 
 abbrev pub invariant-rows : goal.invariant-rows

@@ -1,11 +1,8 @@
 -- `second::gather` meets its contract. The loop makes the row from the front. Assumes nothing.
-use mathlib.Core.Path.{sym, ◌∙◌}
 use mathlib.Core.List.{map}
-use Prim.Native.Nat.{ℕ, ◌-◌, ◌<◌}
-use lib.ListN.{length, get_or, length-map}
-use Rattle.phases.specs.Matrix.{get_d_map}
-use Rattle.loops.specs.Front.{Front, begin, turn, end}
-use native.Mathlib.Omega.{arith}
+use Prim.Native.Nat.{ℕ, ◌-◌}
+use lib.ListN.{length, get_or}
+use Rattle.loops.specs.Front.{Front}
 use Rattle.second.proofs.gather.Given as goal
 
 abbrev pub invariant-loop-k : goal.invariant-loop-k

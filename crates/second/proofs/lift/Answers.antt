@@ -1,7 +1,6 @@
 -- `second::lift` meets its contract. Assumes nothing.
 use mathlib.Core.Path.{◌∙◌}
 use Rattle.second.specs.Store.{row-part}
-use borrow.Author.Rules.{rules}
 use Rattle.second.proofs.lift.Goals as goal
 
 pub returns : goal.returns

@@ -8,7 +8,6 @@ use Rattle.oplist.specs.declared.Op.{Op}
 use Rattle.phases.specs.One.{entry}
 use Rattle.second.specs.Backward.{cleared_none, cleared_one, cleared_as}
 use native.Mathlib.Omega.{arith}
-use borrow.Author.Rules.{rules}
 use Rattle.second.proofs.note_multiple.Goals as goal
 
 pub returns-then-c-eq0 : goal.returns-then-c-eq0
@@ -17,10 +16,10 @@ returns-then-c-eq0 c = cleared_as (ap (λ (n : ℕ). entry n c.args.y c.args.x [
 pub record-requires : goal.record-requires
 record-requires c =
     let a = c.args in
-      record {
-        small = small_multiple a.c a.y a.x (omega (arith, c)) c.requires.y_bound.0 c.requires.y_bound.1 c.multiple_of-op.ensures;
-        fair = c.requires.fair;
-      }
+    record {
+      small = small_multiple a.c a.y a.x (omega (arith, c)) c.requires.y_bound.0 c.requires.y_bound.1 c.multiple_of-op.ensures;
+      fair = c.requires.fair;
+    }
 
 pub returns : goal.returns
 returns c =

@@ -1,6 +1,5 @@
 -- `second::perform` meets its contract. Assumes nothing.
 use Rattle.second.specs.Clear.{performed_one}
-use borrow.Author.Rules.{rules}
 use Rattle.second.proofs.perform.Goals as goal
 
 pub returns : goal.returns

@@ -9,7 +9,6 @@ use Rattle.tally.specs.Book.{book, Fair, fair_anew}
 use Rattle.second.specs.Fill.{Filling}
 use Rattle.second.specs.Whole.{columns_part, reduced}
 use native.Mathlib.Omega.{arith}
-use borrow.Author.Rules.{rules}
 use Rattle.second.proofs.phase_two.Goals as goal
 
 pub fill-requires : goal.fill-requires
@@ -22,10 +21,10 @@ apply_list-requires c =
     let a = c.args in
     let r = c.requires.ready.rooms in
     let z : a.t.used ≡ a.t.used - 0 = omega arith in
-      record {
-        rooms = record { store = record { size = omega (arith, c.fill.auto, r.store.size); from = r.store.from }; row = r.row; few = r.few };
-        each = subst (λ (k : ℕ). Each (Within a.m) (ops_of (take k a.list.now))) z c.requires.within;
-      }
+    record {
+      rooms = record { store = record { size = omega (arith, c.fill.auto, r.store.size); from = r.store.from }; row = r.row; few = r.few };
+      each = subst (λ (k : ℕ). Each (Within a.m) (ops_of (take k a.list.now))) z c.requires.within;
+    }
 
 pub eliminate-requires : goal.eliminate-requires
 eliminate-requires c =

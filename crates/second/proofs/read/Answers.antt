@@ -1,7 +1,6 @@
 -- `second::read` meets its contract. Assumes nothing.
 use mathlib.Core.Path.{sym}
 use Rattle.second.specs.Store.{at-store_of}
-use borrow.Author.Rules.{rules}
 use Rattle.second.proofs.read.Goals as goal
 
 pub returns : goal.returns

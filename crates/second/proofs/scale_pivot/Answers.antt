@@ -16,11 +16,11 @@ perform-requires c =
     let e = sym c.div-quotient.ensures.is ∙ c.in-Value.is in
     let h = quotient_octet c.read-c.result _ e in
     let y : c.args.y < c.args.m = omega (arith, c) in
-      record {
-        rooms = search rules;
-        fair = search rules;
-        fit = record { within = (y, y); small = (omega (arith, c), h) };
-      }
+    record {
+      rooms = search rules;
+      fair = search rules;
+      fit = record { within = (y, y); small = (omega (arith, c), h) };
+    }
 
 pub returns-in-ZeroDivisor : goal.returns-in-ZeroDivisor
 returns-in-ZeroDivisor c =

@@ -2,7 +2,6 @@
 use Rattle.octets.specs.Rows.{scale_row}
 use Rattle.second.specs.Store.{row_made}
 use native.Mathlib.Omega.{arith}
-use borrow.Author.Rules.{rules}
 use Rattle.second.proofs.scale_row.Goals as goal
 
 pub returns : goal.returns

@@ -1,5 +1,4 @@
 -- `shown::put` meets its contract: there is room for one byte more, or the count stays one above the room. Assumes nothing.
-use borrow.Author.Rules.{rules}
 use borrow.Author.Tests.{lt-ltb, le-ltb}
 use Rattle.loops.specs.Room.{put}
 use Rattle.shown.proofs.put.Goals as goal

@@ -1,12 +1,10 @@
 -- `shown::put_all` meets its contract: what is left to put makes the same text. Assumes nothing.
 use Prim.Native.Nat.{◌-◌}
-use mathlib.Core.Path.{◌≡◌, refl}
+use mathlib.Core.Path.{refl}
 use native.Mathlib.Omega.{arith}
-use borrow.Author.Rules.{rules}
-use lib.ListN.{length, drop, drop_of_length-le}
+use lib.ListN.{drop_of_length-le}
 use Rattle.loops.specs.Part.{drop-next}
-use Rattle.loops.specs.Room.{log, puts}
-use Rattle.shown.specs.Put.{byte, one, turn, over}
+use Rattle.shown.specs.Put.{one, turn, over}
 use Rattle.shown.proofs.put_all.Goals as goal
 
 pub loop-k-init : goal.loop-k-init

@@ -1,12 +1,9 @@
 -- `shown::put_all` meets its contract: what is left to put makes the same text. Assumes nothing.
 use Prim.Native.Nat.{◌-◌}
-use mathlib.Core.Path.{◌≡◌, refl}
-use native.Mathlib.Omega.{arith}
-use borrow.Author.Rules.{rules}
-use lib.ListN.{length, drop, drop_of_length-le}
-use Rattle.loops.specs.Part.{drop-next}
+use mathlib.Core.Path.{◌≡◌}
+use lib.ListN.{length, drop}
 use Rattle.loops.specs.Room.{log, puts}
-use Rattle.shown.specs.Put.{byte, one, turn, over}
+use Rattle.shown.specs.Put.{byte}
 use Rattle.shown.proofs.put_all.Given as goal
 
 abbrev pub invariant-loop-k : goal.invariant-loop-k

@@ -1,7 +1,6 @@
 -- `shown::put_answer` meets its contract: each answer is a case of the definition. Assumes nothing.
 use mathlib.Core.Path.{sym, subst}
 use native.Mathlib.Omega.{arith}
-use borrow.Author.Rules.{rules}
 use lib.Seq.{length-take-le}
 use Rattle.stored.specs.declared.Reading.{Reading}
 use Rattle.shown.specs.Filled.{Filled}

@@ -1,6 +1,5 @@
 -- `shown::put_digit` meets its contract: a digit, or nothing. Assumes nothing.
 use mathlib.Core.Path.{ap, ◌∙◌}
-use borrow.Author.Rules.{rules}
 use borrow.Author.Tests.{le-leb, lt-leb}
 use Rattle.loops.specs.Room.{put}
 use Rattle.shown.specs.Put.{byte, one, nothing}

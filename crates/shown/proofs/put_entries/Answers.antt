@@ -1,12 +1,10 @@
 -- `shown::put_entries` meets its contract: what is left to put makes the same text. Assumes nothing.
 use Prim.Native.Nat.{◌-◌}
-use mathlib.Core.Path.{◌≡◌, refl, ap}
+use mathlib.Core.Path.{refl, ap}
 use native.Mathlib.Omega.{arith}
-use borrow.Author.Rules.{rules}
-use lib.ListN.{length, drop, drop_of_length-le}
-use Rattle.loops.specs.Room.{log, puts}
+use lib.ListN.{drop_of_length-le}
 use Rattle.shown.specs.Text.{entries_text}
-use Rattle.shown.specs.Put.{byte, turn, over, entries_text-drop}
+use Rattle.shown.specs.Put.{turn, over, entries_text-drop}
 use Rattle.shown.proofs.put_entries.Goals as goal
 
 pub loop-k-init : goal.loop-k-init

@@ -1,12 +1,10 @@
 -- `shown::put_entries` meets its contract: what is left to put makes the same text. Assumes nothing.
 use Prim.Native.Nat.{◌-◌}
-use mathlib.Core.Path.{◌≡◌, refl, ap}
-use native.Mathlib.Omega.{arith}
-use borrow.Author.Rules.{rules}
-use lib.ListN.{length, drop, drop_of_length-le}
+use mathlib.Core.Path.{◌≡◌}
+use lib.ListN.{length, drop}
 use Rattle.loops.specs.Room.{log, puts}
 use Rattle.shown.specs.Text.{entries_text}
-use Rattle.shown.specs.Put.{byte, turn, over, entries_text-drop}
+use Rattle.shown.specs.Put.{byte}
 use Rattle.shown.proofs.put_entries.Given as goal
 
 abbrev pub invariant-loop-k : goal.invariant-loop-k

@@ -1,5 +1,4 @@
 -- `shown::put_fma` meets its contract: part after part. Assumes nothing.
-use borrow.Author.Rules.{rules}
 use Rattle.shown.specs.Put.{then}
 use Rattle.shown.proofs.put_fma.Goals as goal
 

@@ -1,5 +1,4 @@
 -- `shown::put_list` meets its contract: part after part. Assumes nothing.
-use borrow.Author.Rules.{rules}
 use Rattle.shown.specs.Put.{then}
 use Rattle.shown.specs.Text.{list_text}
 use Rattle.shown.proofs.put_list.Goals as goal

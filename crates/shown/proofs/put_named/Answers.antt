@@ -1,5 +1,4 @@
 -- `shown::put_named` meets its contract: words, then a number. Assumes nothing.
-use borrow.Author.Rules.{rules}
 use Rattle.shown.specs.Put.{then}
 use Rattle.shown.proofs.put_named.Goals as goal
 

@@ -1,6 +1,5 @@
 -- `shown::put_number` meets its contract: digit after digit. Assumes nothing.
 use mathlib.Core.Path.{ap, ◌∙◌}
-use borrow.Author.Rules.{rules}
 use Rattle.loops.specs.Room.{put}
 use Rattle.shown.specs.Text.{decimal}
 use Rattle.shown.specs.Put.{byte, one, then}

@@ -1,5 +1,4 @@
 -- `shown::put_order` meets its contract: each way out is a case of the definition. Assumes nothing.
-use borrow.Author.Rules.{rules}
 use Rattle.shown.specs.Put.{then}
 use Rattle.shown.specs.Text.{order_text}
 use Rattle.shown.proofs.put_order.Goals as goal

@@ -1,5 +1,4 @@
 -- `shown::put_refused` meets its contract: words, then a number. Assumes nothing.
-use borrow.Author.Rules.{rules}
 use Rattle.shown.specs.Put.{then}
 use Rattle.shown.specs.Text.{refused_text}
 use Rattle.shown.proofs.put_refused.Goals as goal

@@ -1,5 +1,4 @@
 -- `shown::put_shape` meets its contract: part after part. Assumes nothing.
-use borrow.Author.Rules.{rules}
 use Rattle.shown.specs.Put.{then}
 use Rattle.shown.specs.Text.{shape_text}
 use Rattle.shown.proofs.put_shape.Goals as goal

@@ -1,5 +1,4 @@
 -- `shown::put_word` meets its contract: each kind is a case of the definition. Assumes nothing.
-use borrow.Author.Rules.{rules}
 use Rattle.shown.specs.Put.{word-mul, word_fma, word_none, word-puts}
 use Rattle.shown.specs.Text.{op_text}
 use Rattle.shown.proofs.put_word.Goals as goal

@@ -1,14 +1,12 @@
 -- `shown::put_words` meets its contract: what is left to put makes the same text. Assumes nothing.
 use Prim.Native.Nat.{ℕ, ◌-◌}
-use mathlib.Core.Path.{◌≡◌, refl, ap}
+use mathlib.Core.Path.{refl, ap}
 use mathlib.Core.List.{List}
 use native.Mathlib.Omega.{arith}
-use borrow.Author.Rules.{rules}
-use lib.ListN.{length, drop, drop_of_length-le}
-use Rattle.loops.specs.Room.{log, puts}
+use lib.ListN.{drop_of_length-le}
 use Rattle.oplist.specs.Listed.{ops_of}
 use Rattle.shown.specs.Text.{ops_text}
-use Rattle.shown.specs.Put.{byte, turn, over, ops_text-drop}
+use Rattle.shown.specs.Put.{turn, over, ops_text-drop}
 use Rattle.shown.proofs.put_words.Goals as goal
 
 pub loop-k-init : goal.loop-k-init

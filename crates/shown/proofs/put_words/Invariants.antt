@@ -1,14 +1,11 @@
 -- `shown::put_words` meets its contract: what is left to put makes the same text. Assumes nothing.
-use Prim.Native.Nat.{ℕ, ◌-◌}
-use mathlib.Core.Path.{◌≡◌, refl, ap}
-use mathlib.Core.List.{List}
-use native.Mathlib.Omega.{arith}
-use borrow.Author.Rules.{rules}
-use lib.ListN.{length, drop, drop_of_length-le}
+use Prim.Native.Nat.{◌-◌}
+use mathlib.Core.Path.{◌≡◌}
+use lib.ListN.{length, drop}
 use Rattle.loops.specs.Room.{log, puts}
 use Rattle.oplist.specs.Listed.{ops_of}
 use Rattle.shown.specs.Text.{ops_text}
-use Rattle.shown.specs.Put.{byte, turn, over, ops_text-drop}
+use Rattle.shown.specs.Put.{byte}
 use Rattle.shown.proofs.put_words.Given as goal
 
 abbrev pub invariant-loop-k : goal.invariant-loop-k

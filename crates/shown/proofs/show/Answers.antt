@@ -1,6 +1,5 @@
 -- `shown::show` meets its contract: what reading left in the rooms is what the form says. Assumes nothing.
 use mathlib.Core.Path.{ap, ◌∙◌}
-use borrow.Author.Rules.{rules}
 use mathlib.Core.Path.{refl}
 use Rattle.stored.specs.Answers.{Got}
 use Rattle.shown.specs.Filled.{showing, same_screen}

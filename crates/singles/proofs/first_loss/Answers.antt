@@ -1,6 +1,4 @@
 use Rattle.singles.specs.Figures.{first_done}
-use native.Mathlib.Omega.{arith}
-use borrow.Author.Rules.{rules}
 use Rattle.singles.proofs.first_loss.Goals as goal
 
 pub returns : goal.returns

@@ -1,7 +1,5 @@
 use Rattle.std.proofs.Common.{take}
 use Rattle.singles.specs.Facts.{kept-all, lose_out, lose_in, lose-not}
-use native.Mathlib.Omega.{arith}
-use borrow.Author.Rules.{rules}
 use Rattle.singles.proofs.lose.Goals as goal
 
 pub returns-then-k-eq0 : goal.returns-then-k-eq0

@@ -1,9 +1,5 @@
 use Prim.Native.Nat.{◌-◌}
-use lib.ListN.{length}
-use Rattle.grid.specs.Grid.{bit}
-use Rattle.singles.specs.Figures.{Leaving, leaving_start, leaving_next, leaving_end, leaving_under}
-use native.Mathlib.Omega.{arith}
-use borrow.Author.Rules.{rules}
+use Rattle.singles.specs.Figures.{leaving_start, leaving_next, leaving_end, leaving_under}
 use Rattle.singles.proofs.lose_cols.Goals as goal
 
 pub loop-k-init : goal.loop-k-init

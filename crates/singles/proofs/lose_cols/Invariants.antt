@@ -1,9 +1,7 @@
 use Prim.Native.Nat.{◌-◌}
 use lib.ListN.{length}
 use Rattle.grid.specs.Grid.{bit}
-use Rattle.singles.specs.Figures.{Leaving, leaving_start, leaving_next, leaving_end, leaving_under}
-use native.Mathlib.Omega.{arith}
-use borrow.Author.Rules.{rules}
+use Rattle.singles.specs.Figures.{Leaving}
 use Rattle.singles.proofs.lose_cols.Given as goal
 
 abbrev pub invariant-loop-k : goal.invariant-loop-k

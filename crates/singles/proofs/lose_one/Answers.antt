@@ -1,6 +1,4 @@
 use Rattle.singles.specs.Figures.{lose-room, lose-done}
-use native.Mathlib.Omega.{arith}
-use borrow.Author.Rules.{rules}
 use Rattle.singles.proofs.lose_one.Goals as goal
 
 pub lose-requires : goal.lose-requires

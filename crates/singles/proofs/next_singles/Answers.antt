@@ -1,7 +1,5 @@
 use Rattle.singles.specs.Figures.{step-one, step_more, rows_tail, under_tail, under_head, under_still}
 use mathlib.Core.Path.{◌∙◌}
-use native.Mathlib.Omega.{arith}
-use borrow.Author.Rules.{rules}
 use Rattle.singles.proofs.next_singles.Goals as goal
 
 pub first_loss-first-requires : goal.first_loss-first-requires

@@ -1,9 +1,7 @@
 -- `singles::place` meets its contract: no y before i. Assumes nothing.
-use Prim.Native.Nat.{ℕ, ◌≤◌, ◌<◌, ◌-◌}
-use mathlib.Core.Path.{◌≡◌}
+use Prim.Native.Nat.{◌-◌}
 use borrow.Author.Count.{below_more}
 use borrow.Author.Rules.{rules}
-use lib.ListN.{get_or}
 use Rattle.singles.proofs.place.Goals as goal
 
 pub loop-i-preserved : goal.loop-i-preserved

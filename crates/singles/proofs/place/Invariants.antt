@@ -1,8 +1,6 @@
 -- `singles::place` meets its contract: no y before i. Assumes nothing.
 use Prim.Native.Nat.{ℕ, ◌≤◌, ◌<◌, ◌-◌}
 use mathlib.Core.Path.{◌≡◌}
-use borrow.Author.Count.{below_more}
-use borrow.Author.Rules.{rules}
 use lib.ListN.{get_or}
 use Rattle.singles.proofs.place.Given as goal
 

@@ -1,6 +1,5 @@
 -- `singles::put_in` meets its contract. Assumes nothing.
 use mathlib.Core.Path.{refl}
-use borrow.Author.Rules.{rules}
 use Rattle.singles.specs.Facts.{kept_put}
 use Rattle.singles.proofs.put_in.Goals as goal
 

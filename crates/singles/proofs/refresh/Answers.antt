@@ -1,8 +1,6 @@
 use Rattle.std.proofs.Common.{take}
 use Rattle.singles.specs.Figures.{renew-room, renew-done}
 use Rattle.singles.specs.Facts.{refresh_in, refresh-not}
-use native.Mathlib.Omega.{arith}
-use borrow.Author.Rules.{rules}
 use Rattle.singles.proofs.refresh.Goals as goal
 
 pub put_in-requires : goal.put_in-requires

@@ -1,11 +1,6 @@
 use mathlib.Core.Path.{sym, ◌∙◌}
-use mathlib.Core.Logic.{⊎_elim}
 use Prim.Native.Nat.{◌-◌}
-use lib.ListN.{length}
-use Rattle.grid.specs.Grid.{bit}
-use Rattle.singles.specs.Figures.{Going, going_start, going_hit, going_skip, going_end, renew_one, at_row}
-use native.Mathlib.Omega.{arith}
-use borrow.Author.Rules.{rules}
+use Rattle.singles.specs.Figures.{going_start, going_hit, going_skip, going_end, at_row}
 use Rattle.singles.proofs.refresh_all.Goals as goal
 use Rattle.singles.proofs.refresh_all.Goals.{then-has, else-has}
 
@@ -20,10 +15,10 @@ refresh-m-requires c = (c.loop-k.invariant.sound, at_row c.loop-k.invariant c.re
 
 pub loop-k-preserved : goal.loop-k-preserved
 loop-k-preserved c =
-    elim c.if-has.branch
-      [ then-has w ↦ rw (w.s-is, w.m-is) (going_hit c.loop-k.invariant c.loop-k-test.true (sym c.has.ensures ∙ w.if-has.true) w.refresh-m.ensures)
+    elim c.if-has.branch [
+      | then-has w ↦ rw (w.s-is, w.m-is) (going_hit c.loop-k.invariant c.loop-k-test.true (sym c.has.ensures ∙ w.if-has.true) w.refresh-m.ensures)
       | else-has w ↦ rw (w.s-is, w.m-is) (going_skip c.loop-k.invariant c.loop-k-test.true (sym c.has.ensures ∙ w.if-has.false))
-      ]
+    ]
 
 pub returns : goal.returns
 returns c = going_end c.loop-k.invariant c.loop-k-test.false

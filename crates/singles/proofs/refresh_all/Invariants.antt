@@ -1,11 +1,7 @@
-use mathlib.Core.Path.{sym, ◌∙◌}
-use mathlib.Core.Logic.{⊎_elim}
 use Prim.Native.Nat.{◌-◌}
 use lib.ListN.{length}
 use Rattle.grid.specs.Grid.{bit}
-use Rattle.singles.specs.Figures.{Going, going_start, going_hit, going_skip, going_end, renew_one, at_row}
-use native.Mathlib.Omega.{arith}
-use borrow.Author.Rules.{rules}
+use Rattle.singles.specs.Figures.{Going, renew_one}
 use Rattle.singles.proofs.refresh_all.Given as goal
 
 abbrev pub invariant-loop-k : goal.invariant-loop-k

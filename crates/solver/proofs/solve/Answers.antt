@@ -16,11 +16,11 @@ slice_bounds-solve_tested-end c = taken_upto _ _ _ _ _ _ (sym c.in-Taken.is ∙ 
 
 pub solve_tested-requires : goal.solve_tested-requires
 solve_tested-requires c = let r = ready_is _ _ _ _ _ _ _ (sym c.in-Taken.is ∙ c.judge.ensures) in
-      record {
-        posed = r.posed;
-        roomed = r.roomed;
-        slabbed = r.slabbed;
-      }
+    record {
+      posed = r.posed;
+      roomed = r.roomed;
+      slabbed = r.slabbed;
+    }
 
 pub returns-in-Refused : goal.returns-in-Refused
 returns-in-Refused c = call_met (refused-is _ _ _ _ _ _ _ (sym c.in-Refused.is ∙ c.judge.ensures))

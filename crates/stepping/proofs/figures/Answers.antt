@@ -2,8 +2,6 @@ use Prim.Native.Nat.{◌-◌}
 use Rattle.loops.specs.Part.{part}
 use Rattle.stepping.specs.Due.{under_out, under_rest, pivot_low, rows-below, figured_below, right_then, shrunk_then, some-row}
 use Rattle.labels.specs.Marking.{as_long}
-use native.Mathlib.Omega.{arith}
-use borrow.Author.Rules.{rules}
 use Rattle.stepping.proofs.figures.Goals as goal
 
 pub slice_bounds-ys-count : goal.slice_bounds-ys-count

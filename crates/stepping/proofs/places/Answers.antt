@@ -5,8 +5,6 @@ use mathlib.Core.List.{List, ◌++◌}
 use Prim.Native.Nat.{ℕ, ◌-◌}
 use lib.ListN.{take, drop}
 use Rattle.loops.specs.Part.{part, put}
-use native.Mathlib.Omega.{arith}
-use borrow.Author.Rules.{rules}
 use Rattle.stepping.proofs.places.Goals as goal
 
 pub bring_row-requires : goal.bring_row-requires
@@ -16,10 +14,10 @@ bring_row-requires c = c.requires.4
 pub arrange-requires : goal.arrange-requires
 unfolding part
 arrange-requires c =
-      record {
-        l_in_bounds = (c.requires.5, c.requires.6, c.requires.7);
-        under = c.requires.8;
-      }
+    record {
+      l_in_bounds = (c.requires.5, c.requires.6, c.requires.7);
+      under = c.requires.8;
+    }
 
 pub returns : goal.returns
 unfolding part put

@@ -44,21 +44,21 @@ slice_bounds-choose-start-2 c = omega (arith, (bounds c.requires.given c.require
 pub choose-chosen-requires : goal.choose-chosen-requires
 unfolding part
 choose-chosen-requires c =
-      record {
-        ready = rule_ready c.requires.given c.requires.standing _ c.requires.deg_len.2;
-        under = elig_under c.requires.given c.requires.standing _ c.requires.deg_len.0;
-        under_2 = singles_under c.requires.given c.requires.standing _ c.requires.deg_len.0;
-        r_value = c.least_positive-least.ensures ∙ least_is c.requires.given c.requires.standing;
-      }
+    record {
+      ready = rule_ready c.requires.given c.requires.standing _ c.requires.deg_len.2;
+      under = elig_under c.requires.given c.requires.standing _ c.requires.deg_len.0;
+      under_2 = singles_under c.requires.given c.requires.standing _ c.requires.deg_len.0;
+      r_value = c.least_positive-least.ensures ∙ least_is c.requires.given c.requires.standing;
+    }
 
 pub step-requires : goal.step-requires
 unfolding part
 step-requires c =
-      record {
-        given = c.requires.given;
-        standing = c.requires.standing;
-        i_value = sym (chosen_is c.requires.given c.requires.standing c.args.deg.now c.requires.deg_len.1) ∙ sym c.choose-chosen.ensures.row ∙ ap row_of c.in-Row.is;
-      }
+    record {
+      given = c.requires.given;
+      standing = c.requires.standing;
+      i_value = sym (chosen_is c.requires.given c.requires.standing c.args.deg.now c.requires.deg_len.1) ∙ sym c.choose-chosen.ensures.row ∙ ap row_of c.in-Row.is;
+    }
 
 pub returns-in-Nothing : goal.returns-in-Nothing
 unfolding part

@@ -1,6 +1,5 @@
 -- `stored::entry_or_zero` meets its contract: past the last entry is nothing. Assumes nothing.
 use mathlib.Core.Path.{sym}
-use borrow.Author.Rules.{rules}
 use Rattle.stored.specs.Bytes.{get_or_out}
 use Rattle.stored.proofs.entry_or_zero.Goals as goal
 

@@ -1,11 +1,7 @@
 -- `stored::fill_list` meets its contract: the room is filled from the front. Assumes nothing.
-use Prim.Native.Nat.{◌-◌}
 use native.Mathlib.Omega.{arith}
-use borrow.Author.Rules.{rules}
-use lib.ListN.{length}
-use Rattle.loops.specs.Front.{Front, end}
-use Rattle.stored.specs.Bytes.{padded, fill_begin, fill_turn}
-use Rattle.stored.specs.Form.{words_at}
+use Rattle.loops.specs.Front.{end}
+use Rattle.stored.specs.Bytes.{fill_begin, fill_turn}
 use Rattle.stored.specs.Scan.{length-words_at}
 use Rattle.stored.proofs.fill_list.Goals as goal
 

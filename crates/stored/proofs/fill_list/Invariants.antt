@@ -1,12 +1,9 @@
 -- `stored::fill_list` meets its contract: the room is filled from the front. Assumes nothing.
 use Prim.Native.Nat.{◌-◌}
-use native.Mathlib.Omega.{arith}
-use borrow.Author.Rules.{rules}
 use lib.ListN.{length}
-use Rattle.loops.specs.Front.{Front, end}
-use Rattle.stored.specs.Bytes.{padded, fill_begin, fill_turn}
+use Rattle.loops.specs.Front.{Front}
+use Rattle.stored.specs.Bytes.{padded}
 use Rattle.stored.specs.Form.{words_at}
-use Rattle.stored.specs.Scan.{length-words_at}
 use Rattle.stored.proofs.fill_list.Given as goal
 
 abbrev pub invariant-loop-i : goal.invariant-loop-i

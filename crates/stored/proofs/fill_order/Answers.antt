@@ -1,9 +1,6 @@
 -- `stored::fill_order` meets its contract: the room is filled from the front. Assumes nothing.
-use Prim.Native.Nat.{◌-◌}
-use borrow.Author.Rules.{rules}
-use lib.ListN.{length}
-use Rattle.loops.specs.Front.{Front, end}
-use Rattle.stored.specs.Bytes.{padded, fill_begin, fill_turn}
+use Rattle.loops.specs.Front.{end}
+use Rattle.stored.specs.Bytes.{fill_begin, fill_turn}
 use Rattle.stored.proofs.fill_order.Goals as goal
 
 pub loop-i-init : goal.loop-i-init

@@ -1,6 +1,5 @@
 -- `stored::form_byte` meets its contract: each part of a form is at its place. Assumes nothing.
 use mathlib.Core.Path.{sym, ◌∙◌}
-use borrow.Author.Rules.{rules}
 use Rattle.stored.specs.Laid.{laid-head, laid_op, laid_tail}
 use Rattle.stored.proofs.form_byte.Goals as goal
 

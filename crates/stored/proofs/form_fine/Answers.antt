@@ -1,7 +1,6 @@
 -- `stored::form_fine` meets its contract: it fails at the first thing that a well made form has and this one lacks. Assumes nothing.
 use mathlib.Core.Path.{sym, ap, ◌∙◌}
 use native.Mathlib.Omega.{arith}
-use borrow.Author.Rules.{rules}
 use Rattle.stored.specs.Form.{unused_fine}
 use Rattle.stored.specs.Formed.{not_formed, formed_rest, flag_at, size-at}
 use Rattle.stored.proofs.form_fine.Goals as goal

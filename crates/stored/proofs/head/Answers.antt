@@ -1,5 +1,4 @@
 -- `stored::head` meets its contract: byte by byte. Assumes nothing.
-use borrow.Author.Rules.{rules}
 use Rattle.stored.proofs.head.Goals as goal
 
 pub returns : goal.returns

@@ -1,7 +1,6 @@
 -- `stored::judge` meets its contract: the numbers of a form that is well made are there. Assumes nothing.
 use mathlib.Core.Path.{sym, ◌∙◌}
 use native.Mathlib.Omega.{arith}
-use borrow.Author.Rules.{rules}
 use borrow.Author.Tests.{not-true, not-false}
 use Rattle.stored.specs.Formed.{form_fine_formed}
 use Rattle.stored.specs.Answers.{judged}

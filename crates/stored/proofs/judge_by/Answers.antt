@@ -1,7 +1,6 @@
 -- `stored::judge_by` meets its contract: each way out is a case of the definition. Assumes nothing.
 use Prim.Native.Nat.{◌+◌, ◌*◌}
 use mathlib.Core.Path.{sym, ap, ◌∙◌}
-use borrow.Author.Rules.{rules}
 use borrow.Author.Tests.{le-leb, lt-leb, not-true, not-false}
 use Rattle.loops.specs.Part.{rest_part}
 use Rattle.oplist.specs.Check.{order_fine}

@@ -1,7 +1,6 @@
 -- `stored::judge_list` meets its contract: each way out is a case of the definition. Assumes nothing.
 use mathlib.Core.Path.{sym, ◌∙◌}
 use native.Mathlib.Omega.{arith}
-use borrow.Author.Rules.{rules}
 use borrow.Author.Tests.{le-leb, lt-leb, not-true, not-false}
 use Rattle.oplist.specs.Facts.{shape_fine-shape}
 use Rattle.stored.specs.Answers.{judged_list}

@@ -1,5 +1,4 @@
 -- `stored::op_byte` meets its contract: byte by byte. Assumes nothing.
-use borrow.Author.Rules.{rules}
 use Rattle.stored.specs.Laid.{word_bytes-made}
 use Rattle.stored.proofs.op_byte.Goals as goal
 

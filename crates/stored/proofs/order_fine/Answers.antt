@@ -1,5 +1,4 @@
 -- `stored::order_fine` meets its contract: each way out is a case of the definition. Assumes nothing.
-use borrow.Author.Rules.{rules}
 use borrow.Author.Tests.{eq-eqb, ne_eqb}
 use Rattle.oplist.specs.Check.{order_fine}
 use Rattle.stored.proofs.order_fine.Goals as goal

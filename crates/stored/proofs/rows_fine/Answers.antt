@@ -1,10 +1,6 @@
 -- `stored::rows_fine` meets its contract: what is left to look at decides the same. Assumes nothing.
-use Prim.Native.Nat.{◌-◌}
-use mathlib.Core.Path.{◌≡◌, refl, sym, ◌∙◌}
-use borrow.Author.Rules.{rules}
-use lib.ListN.{length, drop}
+use mathlib.Core.Path.{refl, sym, ◌∙◌}
 use Rattle.oplist.specs.Facts.{rows_high, rows_twice, rows_next, rows-over}
-use Rattle.oplist.specs.Check.{rows_fine}
 use Rattle.stored.proofs.rows_fine.Goals as goal
 
 pub loop-i-init : goal.loop-i-init

@@ -1,9 +1,7 @@
 -- `stored::rows_fine` meets its contract: what is left to look at decides the same. Assumes nothing.
 use Prim.Native.Nat.{◌-◌}
-use mathlib.Core.Path.{◌≡◌, refl, sym, ◌∙◌}
-use borrow.Author.Rules.{rules}
+use mathlib.Core.Path.{◌≡◌}
 use lib.ListN.{length, drop}
-use Rattle.oplist.specs.Facts.{rows_high, rows_twice, rows_next, rows-over}
 use Rattle.oplist.specs.Check.{rows_fine}
 use Rattle.stored.proofs.rows_fine.Given as goal
 

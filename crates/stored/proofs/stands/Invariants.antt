@@ -1,9 +1,7 @@
 -- `stored::stands` meets its contract: what is left to look at decides the same. Assumes nothing.
 use Prim.Native.Nat.{◌-◌}
-use mathlib.Core.Path.{◌≡◌, refl}
-use borrow.Author.Rules.{rules}
+use mathlib.Core.Path.{◌≡◌}
 use lib.ListN.{length, drop}
-use Rattle.oplist.specs.Facts.{has_hit, has_miss, has-over}
 use Rattle.oplist.specs.Check.{has}
 use Rattle.stored.proofs.stands.Given as goal
 

@@ -1,6 +1,5 @@
 -- `stored::tail_byte` meets its contract: each way out is a case of the definition. Assumes nothing.
 use mathlib.Core.Path.{sym, ◌∙◌}
-use borrow.Author.Rules.{rules}
 use borrow.Author.Tests.{not-true, not-false}
 use Rattle.stored.specs.Bytes.{get_or_out}
 use Rattle.stored.specs.Laid.{get_or-none, get_d_tail}

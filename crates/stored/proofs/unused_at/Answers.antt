@@ -1,5 +1,4 @@
 -- `stored::unused_at` meets its contract: each way out is a case of the definition. Assumes nothing.
-use borrow.Author.Rules.{rules}
 use borrow.Author.Tests.{eq-eqb, ne_eqb}
 use Rattle.stored.specs.Form.{unused_at}
 use Rattle.stored.proofs.unused_at.Goals as goal

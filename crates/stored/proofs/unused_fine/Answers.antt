@@ -1,8 +1,7 @@
 -- `stored::unused_fine` meets its contract: what is left to look at decides the same. Assumes nothing.
-use Prim.Native.Nat.{◌+◌, ◌*◌, ◌-◌, ◌≤◌}
+use Prim.Native.Nat.{◌-◌}
 use mathlib.Core.Path.{◌≡◌, sym, ◌∙◌}
 use native.Mathlib.Omega.{arith}
-use borrow.Author.Rules.{rules}
 use borrow.Author.Tests.{not-true, not-false}
 use Rattle.stored.specs.Form.{unused_fine}
 use Rattle.stored.specs.Scan.{unused_fine-next}

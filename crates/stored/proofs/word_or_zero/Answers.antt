@@ -1,7 +1,6 @@
 -- `stored::word_or_zero` meets its contract: an operation is at its place, and past the last is nothing. Assumes nothing.
 use mathlib.Core.Path.{sym, ◌∙◌}
 use native.Mathlib.Omega.{arith}
-use borrow.Author.Rules.{rules}
 use Rattle.stored.specs.Form.{words_at}
 use Rattle.stored.specs.Bytes.{get_or_out}
 use Rattle.stored.specs.Scan.{length-words_at, get_or-words_at}

@@ -1,12 +1,8 @@
 -- `stored::words_fine` meets its contract: what is left to look at decides the same. Assumes nothing.
 use Prim.Native.Nat.{◌+◌, ◌*◌, ◌-◌, ◌≤◌}
-use mathlib.Core.Path.{◌≡◌, sym, ◌∙◌}
-use native.Mathlib.Omega.{arith}
-use borrow.Author.Rules.{rules}
-use borrow.Author.Tests.{not-true, not-false}
+use mathlib.Core.Path.{◌≡◌}
 use Rattle.oplist.specs.Check.{list_fine}
 use Rattle.stored.specs.Form.{words_at}
-use Rattle.stored.specs.Scan.{list_fine-next}
 use Rattle.stored.proofs.words_fine.Given as goal
 
 abbrev pub invariant-loop-k : goal.invariant-loop-k

@@ -2,8 +2,6 @@
 use mathlib.Core.Path.{sym, ◌∙◌}
 use borrow.Author.Tests.{not-true, not-false}
 use Rattle.symbol_slab.specs.Replay.{checked}
-use native.Mathlib.Omega.{arith}
-use borrow.Author.Rules.{rules}
 use Rattle.symbol_slab.proofs.check_call.Goals as goal
 
 pub returns-then-not-slab_shaped : goal.returns-then-not-slab_shaped

@@ -2,8 +2,6 @@
 use mathlib.Core.Path.{sym, ◌∙◌}
 use Rattle.symbol_slab.specs.Replay.{replayed, replay_met}
 use Rattle.symbol_slab.specs.Passed.{passed, all_placed}
-use native.Mathlib.Omega.{arith}
-use borrow.Author.Rules.{rules}
 use Rattle.symbol_slab.proofs.replay.Goals as goal
 
 pub apply_all-requires : goal.apply_all-requires

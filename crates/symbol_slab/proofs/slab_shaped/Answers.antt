@@ -3,8 +3,6 @@ use mathlib.Core.Path.{sym, ◌∙◌}
 use borrow.Author.Tests.{le-leb, lt-leb, not-true, not-false}
 use Rattle.symbol_slab.specs.Replay.{slab_shaped}
 use Rattle.symbol_slab.specs.Passed.{fits_word}
-use native.Mathlib.Omega.{arith}
-use borrow.Author.Rules.{rules}
 use Rattle.symbol_slab.proofs.slab_shaped.Goals as goal
 
 pub returns-then-not-shape_fine : goal.returns-then-not-shape_fine

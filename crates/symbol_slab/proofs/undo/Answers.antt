@@ -3,8 +3,6 @@ use mathlib.Core.Path.{sym, ◌∙◌}
 use Rattle.symbol_slab.specs.Replay.{undone, undo_met}
 use Rattle.symbol_slab.specs.Passed.{passed, all_placed}
 use borrow.Author.Tests.{not-true, not-false}
-use native.Mathlib.Omega.{arith}
-use borrow.Author.Rules.{rules}
 use Rattle.symbol_slab.proofs.undo.Goals as goal
 
 pub returns-then-not-can_undo : goal.returns-then-not-can_undo

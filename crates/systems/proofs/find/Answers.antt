@@ -1,12 +1,9 @@
 -- `systems::find` meets its contract: what reading gives from here on is what it gave. Assumes nothing.
 use borrow.Author.Rules.{rules}
 use native.Mathlib.Omega.{arith}
-use Prim.Native.Nat.{◌-◌}
-use mathlib.Core.Path.{◌≡◌, refl, sym, ◌∙◌}
-use lib.ListN.{length}
+use mathlib.Core.Path.{refl, sym, ◌∙◌}
 use Rattle.systems.specs.Text.{line_ends}
-use Rattle.systems.specs.Lined.{Buffers}
-use Rattle.systems.specs.Cases.{read_of, find_turn, found_here, found-over}
+use Rattle.systems.specs.Cases.{find_turn, found_here, found-over}
 use Rattle.systems.proofs.find.Goals as goal
 
 pub loop-at-init : goal.loop-at-init

@@ -1,12 +1,9 @@
 -- `systems::find` meets its contract: what reading gives from here on is what it gave. Assumes nothing.
-use borrow.Author.Rules.{rules}
-use native.Mathlib.Omega.{arith}
 use Prim.Native.Nat.{◌-◌}
-use mathlib.Core.Path.{◌≡◌, refl, sym, ◌∙◌}
+use mathlib.Core.Path.{◌≡◌}
 use lib.ListN.{length}
-use Rattle.systems.specs.Text.{line_ends}
 use Rattle.systems.specs.Lined.{Buffers}
-use Rattle.systems.specs.Cases.{read_of, find_turn, found_here, found-over}
+use Rattle.systems.specs.Cases.{read_of}
 use Rattle.systems.proofs.find.Given as goal
 
 abbrev pub invariant-loop-at : goal.invariant-loop-at

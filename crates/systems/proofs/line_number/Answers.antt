@@ -1,11 +1,8 @@
 -- `systems::line_number` meets its contract: newlines passed and those still to come make the same sum. Assumes nothing.
-use borrow.Author.Rules.{rules}
 use native.Mathlib.Omega.{arith}
-use Prim.Native.Nat.{◌+◌, ◌-◌, ◌≤◌}
+use Prim.Native.Nat.{◌-◌}
 use mathlib.Core.Path.{◌≡◌}
-use mathlib.Core.Logic.{⊎_elim}
-use lib.ListN.{length, take, drop}
-use Rattle.systems.specs.Text.{newlines, line_number_of, count-newline, count-other, count_there, count-over}
+use Rattle.systems.specs.Text.{line_number_of, count-newline, count-other, count_there, count-over}
 use Rattle.systems.proofs.line_number.Goals as goal
 use Rattle.systems.proofs.line_number.Goals.{then-text-i-eq10, else-text-i-eq10}
 
@@ -21,10 +18,10 @@ loop-i-preserved c =
     let t = c.args.text.now in
     let i = c.loop-i.i in
     let p = c.args.place in
-    elim c.if-text-i-eq10.branch
-      [ then-text-i-eq10 w ↦ (omega arith, omega arith, omega arith, omega (arith, c.loop-i.invariant.3, count-newline t i p c.loop-i-test.true c.if-place-i.false w.if-text-i-eq10.true))
+    elim c.if-text-i-eq10.branch [
+      | then-text-i-eq10 w ↦ (omega arith, omega arith, omega arith, omega (arith, c.loop-i.invariant.3, count-newline t i p c.loop-i-test.true c.if-place-i.false w.if-text-i-eq10.true))
       | else-text-i-eq10 w ↦ (omega arith, omega arith, omega arith, omega (arith, c.loop-i.invariant.3, count-other t i p c.loop-i-test.true c.if-place-i.false w.if-text-i-eq10.false))
-      ]
+    ]
 
 pub returns : goal.returns
 unfolding line_number_of

@@ -1,11 +1,8 @@
 -- `systems::line_number` meets its contract: newlines passed and those still to come make the same sum. Assumes nothing.
-use borrow.Author.Rules.{rules}
-use native.Mathlib.Omega.{arith}
 use Prim.Native.Nat.{◌+◌, ◌-◌, ◌≤◌}
 use mathlib.Core.Path.{◌≡◌}
-use mathlib.Core.Logic.{⊎_elim}
 use lib.ListN.{length, take, drop}
-use Rattle.systems.specs.Text.{newlines, line_number_of, count-newline, count-other, count_there, count-over}
+use Rattle.systems.specs.Text.{newlines}
 use Rattle.systems.proofs.line_number.Given as goal
 
 abbrev pub invariant-loop-i : goal.invariant-loop-i

@@ -1,5 +1,4 @@
 -- `systems::read` meets its contract: the case that was found, or none. Assumes nothing.
-use borrow.Author.Rules.{rules}
 use native.Mathlib.Omega.{arith}
 use mathlib.Core.Path.{sym, ◌∙◌}
 use Rattle.systems.specs.Text.{line_ends}

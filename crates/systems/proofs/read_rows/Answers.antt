@@ -1,12 +1,9 @@
 -- `systems::read_rows` meets its contract: the lines that are left do what they did. Assumes nothing.
 use borrow.Author.Rules.{rules}
 use native.Mathlib.Omega.{arith}
-use Prim.Native.Nat.{◌-◌}
-use mathlib.Core.Path.{◌≡◌, refl, sym, ◌∙◌}
-use lib.ListN.{length, drop}
-use Rattle.systems.specs.Text.{lines_in, line_ends}
-use Rattle.systems.specs.Lined.{buffers}
-use Rattle.systems.specs.Cases.{rows_of, rows_on, rows_go, rows_bad, rows-over}
+use mathlib.Core.Path.{refl, sym, ◌∙◌}
+use Rattle.systems.specs.Text.{line_ends}
+use Rattle.systems.specs.Cases.{rows_on, rows_go, rows_bad, rows-over}
 use Rattle.systems.proofs.read_rows.Goals as goal
 
 pub loop-at-init : goal.loop-at-init

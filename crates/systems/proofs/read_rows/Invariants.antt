@@ -1,12 +1,10 @@
 -- `systems::read_rows` meets its contract: the lines that are left do what they did. Assumes nothing.
-use borrow.Author.Rules.{rules}
-use native.Mathlib.Omega.{arith}
 use Prim.Native.Nat.{◌-◌}
-use mathlib.Core.Path.{◌≡◌, refl, sym, ◌∙◌}
+use mathlib.Core.Path.{◌≡◌}
 use lib.ListN.{length, drop}
-use Rattle.systems.specs.Text.{lines_in, line_ends}
+use Rattle.systems.specs.Text.{lines_in}
 use Rattle.systems.specs.Lined.{buffers}
-use Rattle.systems.specs.Cases.{rows_of, rows_on, rows_go, rows_bad, rows-over}
+use Rattle.systems.specs.Cases.{rows_of}
 use Rattle.systems.proofs.read_rows.Given as goal
 
 abbrev pub invariant-loop-at : goal.invariant-loop-at

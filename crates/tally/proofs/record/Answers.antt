@@ -1,6 +1,5 @@
 -- `tally::record` meets its contract: the room's own step, and the counts by whether there was room. Assumes nothing.
 use native.Mathlib.Omega.{arith}
-use borrow.Author.Rules.{rules}
 use Rattle.oplist.specs.Count.{adds_in-one, muls_in-one}
 use Rattle.tally.specs.Book.{noted-stored, noted-full}
 use Rattle.tally.proofs.record.Goals as goal

@@ -2,7 +2,6 @@
 use Prim.Native.Nat.{◌-◌}
 use lib.ListN.{length}
 use mathlib.Core.Path.{◌≡◌, refl}
-use native.Mathlib.Omega.{arith}
 use borrow.Author.Rules.{rules}
 use Rattle.vectors.proofs.all.Statement.{statement}
 use Rattle.vectors.proofs.all.Tie as tie

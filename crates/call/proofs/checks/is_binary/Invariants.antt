@@ -1,10 +1,7 @@
 -- `checks::is_binary` meets its contract. Assumes nothing.
-use mathlib.Core.Logic.{⊎_elim}
 use Prim.Native.Nat.{◌-◌}
 use lib.ListN.{length}
-use Rattle.call.specs.Tests.{Sofar, sofar_start, sofar_next, sofar_bad, sofar_end}
-use native.Mathlib.Omega.{arith}
-use borrow.Author.Rules.{rules}
+use Rattle.call.specs.Tests.{Sofar}
 use Rattle.call.proofs.checks.is_binary.Given as goal
 
 abbrev pub invariant-loop-k : goal.invariant-loop-k

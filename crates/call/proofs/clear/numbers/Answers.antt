@@ -3,9 +3,8 @@ use mathlib.Core.Path.{sym}
 use Prim.Native.Nat.{◌-◌}
 use native.Mathlib.Omega.{arith}
 use borrow.Author.Rules.{rules}
-use lib.ListN.{length}
-use Rattle.loops.specs.Front.{Front, begin, turn, end}
-use Rattle.call.specs.Over.{blank, length_over, after-over}
+use Rattle.loops.specs.Front.{begin, turn, end}
+use Rattle.call.specs.Over.{length_over, after-over}
 use Rattle.call.proofs.clear.numbers.Goals as goal
 
 pub loop-k-init : goal.loop-k-init

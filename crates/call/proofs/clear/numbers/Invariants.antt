@@ -1,11 +1,8 @@
 -- `clear::numbers` meets its contract: the loop makes zeros from the front. Assumes nothing.
-use mathlib.Core.Path.{sym}
 use Prim.Native.Nat.{◌-◌}
-use native.Mathlib.Omega.{arith}
-use borrow.Author.Rules.{rules}
 use lib.ListN.{length}
-use Rattle.loops.specs.Front.{Front, begin, turn, end}
-use Rattle.call.specs.Over.{blank, length_over, after-over}
+use Rattle.loops.specs.Front.{Front}
+use Rattle.call.specs.Over.{blank}
 use Rattle.call.proofs.clear.numbers.Given as goal
 
 abbrev pub invariant-loop-k : goal.invariant-loop-k

@@ -1,6 +1,4 @@
 -- `clear::slices` meets its contract. Assumes nothing.
-use native.Mathlib.Omega.{arith}
-use borrow.Author.Rules.{rules}
 use Rattle.call.specs.Call.{wiped_are}
 use Rattle.call.proofs.clear.slices.Goals as goal
 

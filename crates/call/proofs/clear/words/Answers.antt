@@ -1,11 +1,10 @@
 -- `clear::words` meets its contract: the loop makes zeros from place n on. Assumes nothing.
 use mathlib.Core.Path.{sym}
-use Prim.Native.Nat.{◌-◌, ◌≤◌}
+use Prim.Native.Nat.{◌-◌}
 use native.Mathlib.Omega.{arith}
 use borrow.Author.Rules.{rules}
-use lib.ListN.{length}
-use Rattle.loops.specs.Front.{Front, begin-at, turn, end}
-use Rattle.call.specs.Over.{keep, length_over, take-keep, after-keep}
+use Rattle.loops.specs.Front.{begin-at, turn, end}
+use Rattle.call.specs.Over.{length_over, take-keep, after-keep}
 use Rattle.call.proofs.clear.words.Goals as goal
 
 pub loop-k-init : goal.loop-k-init

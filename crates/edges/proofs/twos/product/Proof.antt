@@ -2,7 +2,6 @@
 use Prim.Native.Nat.{◌≤◌}
 use native.Mathlib.Nat.{mul-le-mul_right}
 use native.Mathlib.Omega.{arith}
-use borrow.Author.Rules.{rules}
 use Rattle.edges.proofs.twos.product.Statement.{statement}
 use Rattle.edges.proofs.twos.product.Tie as tie
 

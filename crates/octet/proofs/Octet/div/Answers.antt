@@ -1,7 +1,6 @@
 -- `octet::Octet::div` meets its contract: exponents subtract. Assumes nothing.
 use mathlib.Core.Path.{sym, ◌∙◌}
 use native.Mathlib.Omega.{arith}
-use borrow.Author.Rules.{rules}
 use Rattle.octet.specs.Answers.{divided_zero, divided_value}
 use Rattle.octet.specs.Powers.{quotient-powers, quotient-zero}
 use Rattle.octet.proofs.Octet.div.Goals as goal

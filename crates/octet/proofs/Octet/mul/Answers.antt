@@ -1,6 +1,5 @@
 -- `octet::Octet::mul` meets its contract: exponents add. Assumes nothing.
 use mathlib.Core.Path.{sym, ap₂, ◌∙◌}
-use borrow.Author.Rules.{rules}
 use Rattle.octet.specs.Octet.{mul}
 use Rattle.octet.specs.Products.{mul-zero_l, mul-zero-r}
 use Rattle.octet.specs.Powers.{power-add}

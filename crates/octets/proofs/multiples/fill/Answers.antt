@@ -1,10 +1,9 @@
 -- `multiples::fill` meets its contract. Assumes nothing.
 use mathlib.Core.Path.{◌≡◌, ap, subst}
-use Prim.Native.Nat.{ℕ, ◌-◌, ◌≤◌}
+use Prim.Native.Nat.{ℕ}
 use native.Mathlib.Omega.{arith}
 use lib.ListN.{length, get_or}
-use borrow.Author.Rules.{rules}
-use Rattle.octets.specs.Multiples.{Blank, Multiples, entry, filled, filled_is, multiples_none, multiples_next, blank-next}
+use Rattle.octets.specs.Multiples.{Multiples, entry, filled, filled_is, multiples_none, multiples_next, blank-next}
 use Rattle.octets.proofs.multiples.fill.Goals as goal
 
 pub loop-i-init : goal.loop-i-init

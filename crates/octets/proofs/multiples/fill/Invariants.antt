@@ -1,10 +1,7 @@
 -- `multiples::fill` meets its contract. Assumes nothing.
-use mathlib.Core.Path.{◌≡◌, ap, subst}
-use Prim.Native.Nat.{ℕ, ◌-◌, ◌≤◌}
-use native.Mathlib.Omega.{arith}
-use lib.ListN.{length, get_or}
-use borrow.Author.Rules.{rules}
-use Rattle.octets.specs.Multiples.{Blank, Multiples, entry, filled, filled_is, multiples_none, multiples_next, blank-next}
+use Prim.Native.Nat.{◌-◌, ◌≤◌}
+use lib.ListN.{length}
+use Rattle.octets.specs.Multiples.{Blank, Multiples, entry}
 use Rattle.octets.proofs.multiples.fill.Given as goal
 
 abbrev pub invariant-loop-i : goal.invariant-loop-i

@@ -1,9 +1,8 @@
 -- `multiples::gather` meets its contract. Assumes nothing.
 use mathlib.Core.Path.{ap, subst}
-use Prim.Native.Nat.{ℕ, ◌+◌, ◌-◌, ◌*◌, ◌/◌, ◌%◌, ◌≤◌}
+use Prim.Native.Nat.{ℕ, ◌+◌, ◌*◌, ◌/◌, ◌%◌}
 use native.Mathlib.Omega.{arith}
 use lib.ListN.{length, get_or}
-use borrow.Author.Rules.{rules}
 use Rattle.octet.specs.Octet.{add}
 use Rattle.octets.specs.Spans.{Span, span_start, span_next, span_upto}
 use Rattle.octets.specs.Multiples.{digits_at}

@@ -1,11 +1,7 @@
 -- `multiples::gather` meets its contract. Assumes nothing.
-use mathlib.Core.Path.{ap, subst}
-use Prim.Native.Nat.{ℕ, ◌+◌, ◌-◌, ◌*◌, ◌/◌, ◌%◌, ◌≤◌}
-use native.Mathlib.Omega.{arith}
-use lib.ListN.{length, get_or}
-use borrow.Author.Rules.{rules}
-use Rattle.octet.specs.Octet.{add}
-use Rattle.octets.specs.Spans.{Span, span_start, span_next, span_upto}
+use Prim.Native.Nat.{◌-◌, ◌≤◌}
+use lib.ListN.{length}
+use Rattle.octets.specs.Spans.{Span}
 use Rattle.octets.specs.Multiples.{digits_at}
 use Rattle.octets.proofs.multiples.gather.Given as goal
 

@@ -1,6 +1,5 @@
 -- `multiples::put_digits` meets its contract. Assumes nothing.
 use native.Mathlib.Omega.{arith}
-use borrow.Author.Rules.{rules}
 use Rattle.octet.specs.Octet.{add}
 use Rattle.octets.specs.Multiples.{filled_at_lem, twice_twice}
 use Rattle.octets.proofs.multiples.put_digits.Goals as goal

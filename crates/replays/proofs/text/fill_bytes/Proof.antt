@@ -2,7 +2,6 @@
 use mathlib.Core.Path.{◌≡◌}
 use Prim.Native.Nat.{◌-◌}
 use lib.ListN.{length}
-use native.Mathlib.Omega.{arith}
 use borrow.Author.Rules.{rules}
 use Rattle.replays.proofs.text.fill_bytes.Statement.{statement}
 use Rattle.replays.proofs.text.fill_bytes.Tie as tie

@@ -1,7 +1,6 @@
 -- `text::seek` is safe and ends. Assumes nothing.
 use Prim.Native.Nat.{◌-◌, ◌≤◌}
 use lib.ListN.{length}
-use native.Mathlib.Omega.{arith}
 use borrow.Author.Rules.{rules}
 use Rattle.replays.proofs.text.seek.Statement.{statement}
 use Rattle.replays.proofs.text.seek.Tie as tie

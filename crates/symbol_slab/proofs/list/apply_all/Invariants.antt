@@ -1,11 +1,8 @@
 -- `list::apply_all` meets its contract. Assumes nothing.
 use Prim.Native.Nat.{◌-◌, ◌≤◌}
-use lib.ListN.{length}
-use Rattle.octets.specs.Multiples.{Blank, blank-zeros}
+use Rattle.octets.specs.Multiples.{Blank}
 use Rattle.oplist.specs.Listed.{ops_of}
-use Rattle.symbol_slab.specs.Columns.{Cols, cols-start, cols_join, cols-all}
-use native.Mathlib.Omega.{arith}
-use borrow.Author.Rules.{rules}
+use Rattle.symbol_slab.specs.Columns.{Cols}
 use Rattle.symbol_slab.proofs.list.apply_all.Given as goal
 
 abbrev pub invariant-loop-at : goal.invariant-loop-at

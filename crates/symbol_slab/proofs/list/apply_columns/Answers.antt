@@ -1,10 +1,9 @@
 -- `list::apply_columns` meets its contract. Assumes nothing.
 use mathlib.Core.Path.{refl}
-use Prim.Native.Nat.{◌+◌, ◌-◌}
+use Prim.Native.Nat.{◌-◌}
 use lib.ListN.{length}
-use Rattle.symbol_slab.specs.Placed.{Ready, ready_none}
-use Rattle.symbol_slab.specs.Turns.{Up, up_start, up_next, up_end, placed_at}
-use native.Mathlib.Omega.{arith}
+use Rattle.symbol_slab.specs.Placed.{ready_none}
+use Rattle.symbol_slab.specs.Turns.{up_start, up_next, up_end, placed_at}
 use borrow.Author.Rules.{rules}
 use Rattle.symbol_slab.proofs.list.apply_columns.Goals as goal
 

@@ -4,8 +4,6 @@ use lib.ListN.{length}
 use Rattle.oplist.specs.declared.Word.{Word}
 use Rattle.symbol_slab.specs.Columns.{cols-none}
 use Rattle.symbol_slab.specs.Turns.{PlacedWord}
-use native.Mathlib.Omega.{arith}
-use borrow.Author.Rules.{rules}
 use Rattle.symbol_slab.proofs.list.apply_word.Goals as goal
 
 pub apply-requires : goal.apply-requires

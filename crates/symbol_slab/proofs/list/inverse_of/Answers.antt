@@ -1,7 +1,5 @@
 -- `list::inverse_of` meets its contract. Assumes nothing.
 use Rattle.symbol_slab.specs.Turns.{inverse-value, inverse-zero}
-use native.Mathlib.Omega.{arith}
-use borrow.Author.Rules.{rules}
 use Rattle.symbol_slab.proofs.list.inverse_of.Goals as goal
 
 pub returns-in-Value : goal.returns-in-Value

@@ -1,6 +1,4 @@
 -- `list::inverted` meets its contract. Assumes nothing.
-use native.Mathlib.Omega.{arith}
-use borrow.Author.Rules.{rules}
 use Rattle.symbol_slab.proofs.list.inverted.Goals as goal
 
 pub returns-in-AddAssign : goal.returns-in-AddAssign

@@ -1,8 +1,6 @@
 -- `list::source_of` meets its contract. Assumes nothing.
 use mathlib.Core.Path.{sym, ◌∙◌}
 use Rattle.symbol_slab.specs.Turns.{source}
-use native.Mathlib.Omega.{arith}
-use borrow.Author.Rules.{rules}
 use Rattle.symbol_slab.proofs.list.source_of.Goals as goal
 
 pub returns-in-AddAssign : goal.returns-in-AddAssign

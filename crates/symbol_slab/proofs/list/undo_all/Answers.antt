@@ -1,13 +1,11 @@
 -- `list::undo_all` meets its contract. Assumes nothing.
-use Prim.Native.Nat.{◌-◌, ◌≤◌}
+use Prim.Native.Nat.{◌-◌}
 use lib.ListN.{length}
-use Rattle.algebra.specs.Rows.{undo}
-use Rattle.octets.specs.Multiples.{Blank, blank-zeros}
+use Rattle.octets.specs.Multiples.{blank-zeros}
 use Rattle.oplist.specs.Listed.{ops_of}
 use Rattle.symbol_slab.specs.Turns.{all-inverse}
-use Rattle.symbol_slab.specs.Columns.{Cols, cols-start, cols_join, cols-all}
+use Rattle.symbol_slab.specs.Columns.{cols-start, cols_join, cols-all}
 use native.Mathlib.Omega.{arith}
-use borrow.Author.Rules.{rules}
 use Rattle.symbol_slab.proofs.list.undo_all.Goals as goal
 
 pub loop-at-init : goal.loop-at-init

@@ -1,13 +1,9 @@
 -- `list::undo_all` meets its contract. Assumes nothing.
 use Prim.Native.Nat.{◌-◌, ◌≤◌}
-use lib.ListN.{length}
 use Rattle.algebra.specs.Rows.{undo}
-use Rattle.octets.specs.Multiples.{Blank, blank-zeros}
+use Rattle.octets.specs.Multiples.{Blank}
 use Rattle.oplist.specs.Listed.{ops_of}
-use Rattle.symbol_slab.specs.Turns.{all-inverse}
-use Rattle.symbol_slab.specs.Columns.{Cols, cols-start, cols_join, cols-all}
-use native.Mathlib.Omega.{arith}
-use borrow.Author.Rules.{rules}
+use Rattle.symbol_slab.specs.Columns.{Cols}
 use Rattle.symbol_slab.proofs.list.undo_all.Given as goal
 
 abbrev pub invariant-loop-at : goal.invariant-loop-at

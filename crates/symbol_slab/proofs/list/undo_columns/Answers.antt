@@ -1,10 +1,9 @@
 -- `list::undo_columns` meets its contract. Assumes nothing.
 use mathlib.Core.Path.{refl}
-use Prim.Native.Nat.{◌+◌, ◌-◌}
+use Prim.Native.Nat.{◌-◌}
 use lib.ListN.{length}
-use Rattle.symbol_slab.specs.Placed.{Ready, ready_none}
-use Rattle.symbol_slab.specs.Turns.{Down, down_start, down_next, down_end, placed_at}
-use native.Mathlib.Omega.{arith}
+use Rattle.symbol_slab.specs.Placed.{ready_none}
+use Rattle.symbol_slab.specs.Turns.{down_start, down_next, down_end, placed_at}
 use borrow.Author.Rules.{rules}
 use Rattle.symbol_slab.proofs.list.undo_columns.Goals as goal
 

@@ -1,11 +1,8 @@
 -- `list::undo_columns` meets its contract. Assumes nothing.
-use mathlib.Core.Path.{refl}
 use Prim.Native.Nat.{◌+◌, ◌-◌}
 use lib.ListN.{length}
-use Rattle.symbol_slab.specs.Placed.{Ready, ready_none}
-use Rattle.symbol_slab.specs.Turns.{Down, down_start, down_next, down_end, placed_at}
-use native.Mathlib.Omega.{arith}
-use borrow.Author.Rules.{rules}
+use Rattle.symbol_slab.specs.Placed.{Ready}
+use Rattle.symbol_slab.specs.Turns.{Down}
 use Rattle.symbol_slab.proofs.list.undo_columns.Given as goal
 
 abbrev pub invariant-loop-done : goal.invariant-loop-done

@@ -1,11 +1,8 @@
 -- `list::undo_word` meets its contract. Assumes nothing.
-use mathlib.Core.Path.{subst, sym, ◌∙◌}
+use mathlib.Core.Path.{sym, ◌∙◌}
 use lib.ListN.{length}
-use Rattle.oplist.specs.declared.Word.{Word}
 use Rattle.symbol_slab.specs.Columns.{cols-none}
 use Rattle.symbol_slab.specs.Turns.{placed-inverse}
-use native.Mathlib.Omega.{arith}
-use borrow.Author.Rules.{rules}
 use Rattle.symbol_slab.proofs.list.undo_word.Goals as goal
 
 pub apply-requires : goal.apply-requires

@@ -5,7 +5,6 @@ use Rattle.oplist.specs.declared.Op.{Op}
 use Rattle.symbol_slab.specs.Placed.{Placed, two_parts, ready_none}
 use Rattle.symbol_slab.specs.Columns.{cols-add, cols_scale, cols_fma}
 use native.Mathlib.Omega.{arith}
-use borrow.Author.Rules.{rules}
 use Rattle.symbol_slab.proofs.row.apply.Goals as goal
 
 pub overflow_mul-d : goal.overflow_mul-d

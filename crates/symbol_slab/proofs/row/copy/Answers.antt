@@ -3,8 +3,7 @@ use mathlib.Core.Path.{refl, sym}
 use Prim.Native.Nat.{◌-◌}
 use native.Mathlib.Omega.{arith}
 use borrow.Author.Rules.{rules}
-use lib.ListN.{length}
-use Rattle.loops.specs.Front.{Front, begin, turn, end}
+use Rattle.loops.specs.Front.{begin, turn, end}
 use Rattle.symbol_slab.proofs.row.copy.Goals as goal
 
 pub loop-i-init : goal.loop-i-init

@@ -1,10 +1,7 @@
 -- `row::copy` meets its contract: the loop makes src from the front. Assumes nothing.
-use mathlib.Core.Path.{refl, sym}
 use Prim.Native.Nat.{◌-◌}
-use native.Mathlib.Omega.{arith}
-use borrow.Author.Rules.{rules}
 use lib.ListN.{length}
-use Rattle.loops.specs.Front.{Front, begin, turn, end}
+use Rattle.loops.specs.Front.{Front}
 use Rattle.symbol_slab.proofs.row.copy.Given as goal
 
 abbrev pub invariant-loop-i : goal.invariant-loop-i

@@ -1,7 +1,5 @@
 -- `row::fma_once` meets its contract. Assumes nothing.
 use Rattle.symbol_slab.specs.Placed.{copy_span, copy_blank}
-use native.Mathlib.Omega.{arith}
-use borrow.Author.Rules.{rules}
 use Rattle.symbol_slab.proofs.row.fma_once.Goals as goal
 
 pub returns : goal.returns

@@ -1,8 +1,6 @@
 -- `row::fma_part` meets its contract. Assumes nothing.
 use mathlib.Core.Path.{refl}
 use Rattle.symbol_slab.specs.Placed.{ready_none}
-use native.Mathlib.Omega.{arith}
-use borrow.Author.Rules.{rules}
 use Rattle.symbol_slab.proofs.row.fma_part.Goals as goal
 
 pub returns : goal.returns

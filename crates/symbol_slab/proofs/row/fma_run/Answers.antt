@@ -1,7 +1,6 @@
 -- `row::fma_run` meets its contract. Assumes nothing.
 use Rattle.symbol_slab.specs.Placed.{fma_span, ready_after}
 use native.Mathlib.Omega.{arith}
-use borrow.Author.Rules.{rules}
 use Rattle.symbol_slab.proofs.row.fma_run.Goals as goal
 
 pub returns : goal.returns

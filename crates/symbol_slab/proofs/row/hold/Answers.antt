@@ -4,7 +4,6 @@ use Prim.Native.Nat.{ℕ}
 use Rattle.octets.specs.Multiples.{Multiples, entry}
 use Rattle.symbol_slab.specs.Placed.{held_part}
 use native.Mathlib.Omega.{arith}
-use borrow.Author.Rules.{rules}
 use Rattle.symbol_slab.proofs.row.hold.Goals as goal
 
 pub returns-then-held-src : goal.returns-then-held-src

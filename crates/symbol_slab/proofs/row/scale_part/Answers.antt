@@ -1,7 +1,5 @@
 -- `row::scale_part` meets its contract. Assumes nothing.
 use Rattle.symbol_slab.specs.Placed.{scale_span}
-use native.Mathlib.Omega.{arith}
-use borrow.Author.Rules.{rules}
 use Rattle.symbol_slab.proofs.row.scale_part.Goals as goal
 
 pub returns : goal.returns

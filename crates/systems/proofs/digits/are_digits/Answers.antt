@@ -1,9 +1,6 @@
 -- `digits::are_digits` meets its contract: what is left to look at decides the same. Assumes nothing.
-use borrow.Author.Rules.{rules}
-use Prim.Native.Nat.{◌-◌}
-use mathlib.Core.Path.{◌≡◌, refl, sym, ◌∙◌}
-use lib.ListN.{length, drop}
-use Rattle.systems.specs.Digits.{are_digits, digits_bad, digits_good, digits_over}
+use mathlib.Core.Path.{refl, sym, ◌∙◌}
+use Rattle.systems.specs.Digits.{digits_bad, digits_good, digits_over}
 use Rattle.systems.proofs.digits.are_digits.Goals as goal
 
 pub loop-i-init : goal.loop-i-init

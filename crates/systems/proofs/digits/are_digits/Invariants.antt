@@ -1,9 +1,8 @@
 -- `digits::are_digits` meets its contract: what is left to look at decides the same. Assumes nothing.
-use borrow.Author.Rules.{rules}
 use Prim.Native.Nat.{◌-◌}
-use mathlib.Core.Path.{◌≡◌, refl, sym, ◌∙◌}
+use mathlib.Core.Path.{◌≡◌}
 use lib.ListN.{length, drop}
-use Rattle.systems.specs.Digits.{are_digits, digits_bad, digits_good, digits_over}
+use Rattle.systems.specs.Digits.{are_digits}
 use Rattle.systems.proofs.digits.are_digits.Given as goal
 
 abbrev pub invariant-loop-i : goal.invariant-loop-i

@@ -1,5 +1,4 @@
 -- `digits::bit` meets its contract: four bits a digit. Assumes nothing.
-use borrow.Author.Rules.{rules}
 use native.Mathlib.Omega.{arith}
 use Prim.Native.Nat.{ℕ, ◌/◌, ◌%◌}
 use mathlib.Core.Path.{sym, ap, ◌∙◌}

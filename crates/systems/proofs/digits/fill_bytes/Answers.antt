@@ -1,11 +1,10 @@
 -- `digits::fill_bytes` meets its contract: the room is filled from the front. Assumes nothing.
-use borrow.Author.Rules.{rules}
 use native.Mathlib.Omega.{arith}
-use Prim.Native.Nat.{ℕ, ◌+◌, ◌-◌, ◌*◌, ◌<◌}
+use Prim.Native.Nat.{ℕ, ◌+◌, ◌*◌, ◌<◌}
 use mathlib.Core.Path.{sym, ap₂, ◌∙◌}
 use lib.ListN.{length}
-use Rattle.loops.specs.Front.{Front, begin, turn, end}
-use Rattle.systems.specs.Digits.{bytes_of, length-bytes, get_or-bytes, digits_all}
+use Rattle.loops.specs.Front.{begin, turn, end}
+use Rattle.systems.specs.Digits.{length-bytes, get_or-bytes, digits_all}
 use Rattle.systems.proofs.digits.fill_bytes.Goals as goal
 
 pub loop-i-init : goal.loop-i-init

@@ -1,11 +1,8 @@
 -- `digits::fill_bytes` meets its contract: the room is filled from the front. Assumes nothing.
-use borrow.Author.Rules.{rules}
-use native.Mathlib.Omega.{arith}
-use Prim.Native.Nat.{ℕ, ◌+◌, ◌-◌, ◌*◌, ◌<◌}
-use mathlib.Core.Path.{sym, ap₂, ◌∙◌}
+use Prim.Native.Nat.{◌-◌}
 use lib.ListN.{length}
-use Rattle.loops.specs.Front.{Front, begin, turn, end}
-use Rattle.systems.specs.Digits.{bytes_of, length-bytes, get_or-bytes, digits_all}
+use Rattle.loops.specs.Front.{Front}
+use Rattle.systems.specs.Digits.{bytes_of}
 use Rattle.systems.proofs.digits.fill_bytes.Given as goal
 
 abbrev pub invariant-loop-i : goal.invariant-loop-i

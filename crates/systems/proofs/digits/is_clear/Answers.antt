@@ -1,10 +1,7 @@
 -- `digits::is_clear` meets its contract: what is left to look at decides the same. Assumes nothing.
-use borrow.Author.Rules.{rules}
 use native.Mathlib.Omega.{arith}
-use Prim.Native.Nat.{◌-◌, ◌*◌}
-use mathlib.Core.Path.{◌≡◌, refl, sym, ◌∙◌}
-use lib.ListN.{length, drop}
-use Rattle.systems.specs.Digits.{bits_in, clear, length_bits, clear-not, clear_next, clear-over}
+use mathlib.Core.Path.{refl, sym, ◌∙◌}
+use Rattle.systems.specs.Digits.{bits_in, length_bits, clear-not, clear_next, clear-over}
 use Rattle.systems.proofs.digits.is_clear.Goals as goal
 
 pub loop-i-init : goal.loop-i-init

@@ -1,10 +1,8 @@
 -- `digits::is_clear` meets its contract: what is left to look at decides the same. Assumes nothing.
-use borrow.Author.Rules.{rules}
-use native.Mathlib.Omega.{arith}
 use Prim.Native.Nat.{◌-◌, ◌*◌}
-use mathlib.Core.Path.{◌≡◌, refl, sym, ◌∙◌}
+use mathlib.Core.Path.{◌≡◌}
 use lib.ListN.{length, drop}
-use Rattle.systems.specs.Digits.{bits_in, clear, length_bits, clear-not, clear_next, clear-over}
+use Rattle.systems.specs.Digits.{bits_in, clear}
 use Rattle.systems.proofs.digits.is_clear.Given as goal
 
 abbrev pub invariant-loop-i : goal.invariant-loop-i

@@ -1,5 +1,4 @@
 -- `digits::nibble` meets its contract: each range is a case of the definition. Assumes nothing.
-use borrow.Author.Rules.{rules}
 use native.Mathlib.Omega.{arith}
 use borrow.Author.Tests.{lt-ltb, le-ltb, le-leb, lt-leb}
 use Rattle.systems.specs.Digits.{nibble_of}

@@ -1,5 +1,4 @@
 -- `rows::columns` meets its contract: an entry of the table, or none. Assumes nothing.
-use borrow.Author.Rules.{rules}
 use mathlib.Core.Path.{sym, ap, ◌∙◌}
 use Rattle.systems.specs.Lined.{columns_in, columns_of}
 use Rattle.systems.proofs.rows.columns.Goals as goal

@@ -1,5 +1,4 @@
 -- `rows::is_bytes` meets its contract: length and digits. Assumes nothing.
-use borrow.Author.Rules.{rules}
 use mathlib.Core.Path.{sym, ◌∙◌}
 use Rattle.systems.specs.Digits.{bytes-size, bytes-is}
 use Rattle.systems.proofs.rows.is_bytes.Goals as goal

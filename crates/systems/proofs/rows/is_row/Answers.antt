@@ -1,5 +1,4 @@
 -- `rows::is_row` meets its contract: length, digits, zeros after the bits. Assumes nothing.
-use borrow.Author.Rules.{rules}
 use mathlib.Core.Path.{sym, ◌∙◌}
 use borrow.Author.Tests.{not-true, not-false}
 use Rattle.systems.specs.Digits.{row-size, row_bad, row_is}

@@ -1,5 +1,4 @@
 -- `rows::read_head` meets its contract: each way through a `sys` line is a case of the definition. Assumes nothing.
-use borrow.Author.Rules.{rules}
 use mathlib.Core.Path.{sym, ◌∙◌}
 use borrow.Author.Tests.{not-true, not-false}
 use Rattle.systems.specs.Lined.{head-none, head_first, head-second, head-third, head-fourth, head_long, head-flag, head-is}

@@ -1,9 +1,6 @@
 -- `words::line_end` meets its contract: the end is as far from here as it was. Assumes nothing.
-use borrow.Author.Rules.{rules}
-use Prim.Native.Nat.{◌+◌, ◌-◌}
-use mathlib.Core.Path.{◌≡◌, refl, sym, ◌∙◌}
-use lib.ListN.{length, drop}
-use Rattle.systems.specs.Text.{end_of, end_here, end_next, end_over}
+use mathlib.Core.Path.{refl, sym, ◌∙◌}
+use Rattle.systems.specs.Text.{end_here, end_next, end_over}
 use Rattle.systems.proofs.words.line_end.Goals as goal
 
 pub loop-i-init : goal.loop-i-init

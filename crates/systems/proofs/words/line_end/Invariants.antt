@@ -1,9 +1,8 @@
 -- `words::line_end` meets its contract: the end is as far from here as it was. Assumes nothing.
-use borrow.Author.Rules.{rules}
 use Prim.Native.Nat.{◌+◌, ◌-◌}
-use mathlib.Core.Path.{◌≡◌, refl, sym, ◌∙◌}
+use mathlib.Core.Path.{◌≡◌}
 use lib.ListN.{length, drop}
-use Rattle.systems.specs.Text.{end_of, end_here, end_next, end_over}
+use Rattle.systems.specs.Text.{end_of}
 use Rattle.systems.proofs.words.line_end.Given as goal
 
 abbrev pub invariant-loop-i : goal.invariant-loop-i

@@ -1,10 +1,7 @@
 -- `words::read_digits` meets its contract: what is left says the same number. Assumes nothing.
-use borrow.Author.Rules.{rules}
 use native.Mathlib.Omega.{arith}
-use Prim.Native.Nat.{◌-◌, ◌≤◌, ◌<◌}
-use mathlib.Core.Path.{◌≡◌, refl, sym, ◌∙◌}
-use lib.ListN.{length, drop}
-use Rattle.systems.specs.Text.{digits_of, digits_space, digits_low, digits_high, digits_large, digits_next, digits_over}
+use mathlib.Core.Path.{refl, sym, ◌∙◌}
+use Rattle.systems.specs.Text.{digits_space, digits_low, digits_high, digits_large, digits_next, digits_over}
 use Rattle.systems.proofs.words.read_digits.Goals as goal
 
 pub loop-i-init : goal.loop-i-init

@@ -1,10 +1,8 @@
 -- `words::read_digits` meets its contract: what is left says the same number. Assumes nothing.
-use borrow.Author.Rules.{rules}
-use native.Mathlib.Omega.{arith}
 use Prim.Native.Nat.{◌-◌, ◌≤◌, ◌<◌}
-use mathlib.Core.Path.{◌≡◌, refl, sym, ◌∙◌}
+use mathlib.Core.Path.{◌≡◌}
 use lib.ListN.{length, drop}
-use Rattle.systems.specs.Text.{digits_of, digits_space, digits_low, digits_high, digits_large, digits_next, digits_over}
+use Rattle.systems.specs.Text.{digits_of}
 use Rattle.systems.proofs.words.read_digits.Given as goal
 
 abbrev pub invariant-loop-i : goal.invariant-loop-i

@@ -1,5 +1,4 @@
 -- `words::read_number` meets its contract: a digit at least, then the digits. Assumes nothing.
-use borrow.Author.Rules.{rules}
 use mathlib.Core.Path.{sym, ◌∙◌}
 use Rattle.systems.specs.Text.{number_out, number-space, number_digits}
 use Rattle.systems.proofs.words.read_number.Goals as goal

@@ -1,9 +1,6 @@
 -- `words::starts` meets its contract: what is left to compare decides the same. Assumes nothing.
-use borrow.Author.Rules.{rules}
-use Prim.Native.Nat.{◌-◌}
-use mathlib.Core.Path.{◌≡◌, refl, sym, ◌∙◌}
-use lib.ListN.{length, drop}
-use Rattle.systems.specs.Text.{starts_with, starts_out, starts_other, starts_next, starts_over}
+use mathlib.Core.Path.{refl, sym, ◌∙◌}
+use Rattle.systems.specs.Text.{starts_out, starts_other, starts_next, starts_over}
 use Rattle.systems.proofs.words.starts.Goals as goal
 
 pub loop-i-init : goal.loop-i-init

@@ -1,9 +1,8 @@
 -- `words::starts` meets its contract: what is left to compare decides the same. Assumes nothing.
-use borrow.Author.Rules.{rules}
 use Prim.Native.Nat.{◌-◌}
-use mathlib.Core.Path.{◌≡◌, refl, sym, ◌∙◌}
+use mathlib.Core.Path.{◌≡◌}
 use lib.ListN.{length, drop}
-use Rattle.systems.specs.Text.{starts_with, starts_out, starts_other, starts_next, starts_over}
+use Rattle.systems.specs.Text.{starts_with}
 use Rattle.systems.proofs.words.starts.Given as goal
 
 abbrev pub invariant-loop-i : goal.invariant-loop-i
