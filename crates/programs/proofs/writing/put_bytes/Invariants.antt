@@ -1,7 +1,6 @@
 -- `writing::put_bytes` is safe and ends. Assumes nothing.
 use Prim.Native.Nat.{◌-◌, ◌≤◌}
 use lib.ListN.{length}
-use borrow.Author.Rules.{rules}
 use Rattle.programs.proofs.writing.put_bytes.Given as goal
 
 abbrev pub invariant-loop-i : goal.invariant-loop-i

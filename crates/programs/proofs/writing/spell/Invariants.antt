@@ -1,9 +1,7 @@
 -- `writing::spell` is safe and ends. Assumes nothing.
 use Prim.Native.Nat.{◌-◌, ◌≤◌}
-use lib.ListN.{length, length-set}
+use lib.ListN.{length}
 use mathlib.Core.Path.{◌≡◌}
-use native.Mathlib.Omega.{arith}
-use borrow.Author.Rules.{rules}
 use Rattle.programs.proofs.writing.spell.Given as goal
 
 abbrev pub invariant-loop-i : goal.invariant-loop-i
