@@ -1,8 +1,6 @@
 -- `put_symbols` is safe and ends. Assumes nothing.
 use Prim.Native.Nat.{◌-◌}
 use lib.ListN.{length}
-use native.Mathlib.Omega.{arith}
-use borrow.Author.Rules.{rules}
 use Rattle.recover.proofs.put_symbols.Given as goal
 
 abbrev pub decreases-loop-j : goal.decreases-loop-j
