@@ -1,7 +1,6 @@
 -- `first_newline` is safe and ends. Assumes nothing.
 use Prim.Native.Nat.{◌-◌, ◌≤◌}
 use lib.ListN.{length}
-use borrow.Author.Rules.{rules}
 use Rattle.vectors.proofs.first_newline.Given as goal
 
 abbrev pub invariant-loop-i : goal.invariant-loop-i

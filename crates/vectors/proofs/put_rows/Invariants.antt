@@ -1,8 +1,6 @@
 -- `put_rows` is safe and ends. Assumes nothing.
 use Prim.Native.Nat.{◌-◌}
 use lib.ListN.{length}
-use native.Mathlib.Omega.{arith}
-use borrow.Author.Rules.{rules}
 use Rattle.vectors.proofs.put_rows.Given as goal
 
 abbrev pub decreases-loop-i : goal.decreases-loop-i

@@ -2,7 +2,6 @@
 use Prim.Native.Nat.{◌-◌, ◌≤◌}
 use lib.ListN.{length}
 use mathlib.Core.Path.{◌≡◌}
-use borrow.Author.Rules.{rules}
 use Rattle.vectors.proofs.read_all.Given as goal
 
 abbrev pub invariant-loop-n : goal.invariant-loop-n

@@ -1,8 +1,6 @@
 -- `whole_lines` stays within the text. Assumes nothing.
-use Prim.Native.Nat.{◌-◌, ◌≤◌}
+use Prim.Native.Nat.{◌≤◌}
 use lib.ListN.{length}
-use native.Mathlib.Omega.{arith}
-use borrow.Author.Rules.{rules}
 use Rattle.vectors.proofs.whole_lines.Given as goal
 
 abbrev pub invariant-loop-n : goal.invariant-loop-n
