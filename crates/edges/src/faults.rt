@@ -6,6 +6,8 @@ use crate::told::{Lent, Seen};
 use crate::{BAD_COUNT, BAD_SHAPE, NO_ROOM, ROOMS};
 use programs::put;
 use solver::Rooms;
+use std::io;
+use std::io::Write;
 
 // One less, or 0.
 pub(crate) fn less(n: usize) -> usize {
@@ -84,64 +86,65 @@ fn wanted(which: usize) -> usize {
 }
 
 // The name of a working room.
-fn put_room(which: usize) {
+fn put_room<W: Write>(out: &mut W, which: usize) -> io::Result<()> {
     match which {
-        2 => put(b"work"),
-        3 => put(b"scratch"),
-        4 => put(b"columns"),
-        5 => put(b"rows"),
-        6 => put(b"ones"),
-        7 => put(b"degrees"),
-        8 => put(b"singles"),
-        9 => put(b"labels"),
-        _ => put(b"sizes"),
+        2 => put(out, b"work"),
+        3 => put(out, b"scratch"),
+        4 => put(out, b"columns"),
+        5 => put(out, b"rows"),
+        6 => put(out, b"ones"),
+        7 => put(out, b"degrees"),
+        8 => put(out, b"singles"),
+        9 => put(out, b"labels"),
+        _ => put(out, b"sizes"),
     }
 }
 
 // The name of a fault, or of two.
-fn put_fault(which: usize) {
+fn put_fault<W: Write>(out: &mut W, which: usize) -> io::Result<()> {
     match which {
-        11 => put(b"K 0"),
-        12 => put(b"M + 1"),
-        13 => put(b"M - 1"),
-        14 => put(b"T 0"),
-        15 => put(b"matrix"),
-        16 => put(b"slab"),
-        17 => put(b"K and T"),
-        18 => put(b"T, order"),
-        19 => put(b"order, list"),
-        _ => put(b"octets"),
+        11 => put(out, b"K 0"),
+        12 => put(out, b"M + 1"),
+        13 => put(out, b"M - 1"),
+        14 => put(out, b"T 0"),
+        15 => put(out, b"matrix"),
+        16 => put(out, b"slab"),
+        17 => put(out, b"K and T"),
+        18 => put(out, b"T, order"),
+        19 => put(out, b"order, list"),
+        _ => put(out, b"octets"),
     }
 }
 
 // The name of what was tried.
-fn put_tried(which: usize) {
+fn put_tried<W: Write>(out: &mut W, which: usize) -> io::Result<()> {
     if which == 0 {
-        return put(b"order");
+        return put(out, b"order");
     }
     if which == 1 {
-        return put(b"vector");
+        return put(out, b"vector");
     }
     if which < ROOMS {
-        return put_room(which);
+        return put_room(out, which);
     }
-    put_fault(which)
+    put_fault(out, which)
 }
 
 // One more where such a call is refused; else it is said to be wrong.
-fn count_tried(n: usize, which: usize, e: Seen) -> usize {
+fn count_tried<W: Write>(out: &mut W, n: usize, which: usize, e: Seen) -> io::Result<usize> {
     if is_refused(e, wanted(which)) {
-        return more(n);
+        return Ok(more(n));
     }
-    put(b"wrong ");
-    put_tried(which);
+    put(out, b"wrong ")?;
+    put_tried(out, which)?;
     let a = e.answer;
-    put_answer(a);
-    n
+    put_answer(out, a)?;
+    Ok(n)
 }
 
 // How many such calls are refused.
-pub(crate) fn refused(
+pub(crate) fn refused<W: Write>(
+    out: &mut W,
     l: Lent,
     from: usize,
     end: usize,
@@ -152,7 +155,7 @@ pub(crate) fn refused(
     list: &[u64],
     order: &[usize],
     vector: &[u8],
-) -> usize {
+) -> io::Result<usize> {
     let mut right = 0;
     let mut which = from;
     while which < end {
@@ -166,8 +169,8 @@ pub(crate) fn refused(
             order,
             vector,
         );
-        right = count_tried(right, which, e);
+        right = count_tried(out, right, which, e)?;
         which += 1;
     }
-    right
+    Ok(right)
 }

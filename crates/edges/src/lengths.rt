@@ -6,6 +6,8 @@ use crate::same::{both, either, same_answer};
 use crate::told::{Halved, Lent, Seen};
 use crate::{LIST_FULL, MOST_LIST};
 use solver::Answer;
+use std::io;
+use std::io::Write;
 
 // The call with another list room.
 fn with_list(l: Lent, n: usize) -> Lent {
@@ -27,7 +29,8 @@ fn is_full(e: Seen) -> bool {
 }
 
 // The smallest list room that is not too short.
-pub(crate) fn halve(
+pub(crate) fn halve<W: Write>(
+    out: &mut W,
     l: Lent,
     first: Answer,
     bits: &[u8],
@@ -37,7 +40,7 @@ pub(crate) fn halve(
     list: &[u64],
     order: &[usize],
     vector: &[u8],
-) -> Halved {
+) -> io::Result<Halved> {
     let mut low = 0;
     let mut high = MOST_LIST;
     let mut right = 0;
@@ -55,23 +58,25 @@ pub(crate) fn halve(
         );
         let a = e.answer;
         right = count_at(
+            out,
             right,
             either(is_full(e), is_same(e, first)),
             b"wrong list room ",
             room,
             a,
-        );
+        )?;
         if solver::number(a) == LIST_FULL {
             low = room + 1;
         } else {
             high = room;
         }
     }
-    Halved { length: low, right }
+    Ok(Halved { length: low, right })
 }
 
 // One more where the list room one shorter is too short; no more where there is no shorter one.
-pub(crate) fn short_list(
+pub(crate) fn short_list<W: Write>(
+    out: &mut W,
     n: usize,
     l: Lent,
     bits: &[u8],
@@ -81,9 +86,9 @@ pub(crate) fn short_list(
     list: &[u64],
     order: &[usize],
     vector: &[u8],
-) -> usize {
+) -> io::Result<usize> {
     if l.list < 1 {
-        return n;
+        return Ok(n);
     }
     let room = less(l.list);
     let e = again(
@@ -97,5 +102,5 @@ pub(crate) fn short_list(
         vector,
     );
     let a = e.answer;
-    count_at(n, is_full(e), b"wrong list short ", room, a)
+    count_at(out, n, is_full(e), b"wrong list short ", room, a)
 }

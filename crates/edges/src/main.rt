@@ -26,11 +26,12 @@ mod told;
 mod trials;
 mod twos;
 
-use libc::STDIN_FILENO;
 use params::Parameters;
-use programs::{at_most, put};
+use programs::{at_most, put, read_full};
 use said::put_case;
 use solver::Need;
+use std::io;
+use std::io::Write;
 use systems::{Read, System};
 use trials::try_calls;
 
@@ -67,67 +68,85 @@ const ROOMS: usize = 11;
 const FAULTS: usize = 10;
 
 // A case, with its buffers cut to what it has filled.
-fn try_case(name: &[u8], s: System, bits: &mut [u8], octets: &[u8], slab: &[u8]) {
+fn try_case<W: Write>(
+    out: &mut W,
+    name: &[u8],
+    s: System,
+    bits: &mut [u8],
+    octets: &[u8],
+    slab: &[u8],
+) -> io::Result<()> {
     let b = at_most(s.bits, bits.len());
     let o = at_most(s.octets, octets.len());
     let n = at_most(s.slab, slab.len());
     match params::params(s.k) {
         Parameters::BadCount => {
-            put(name);
-            put(b" has no table entry\n");
+            put(out, name)?;
+            put(out, b" has no table entry\n")
         }
         Parameters::Found(g) => match solver::needs(s.m, s.l) {
             Need::BadShape => {
-                put(name);
-                put(b" is out of bounds\n");
+                put(out, name)?;
+                put(out, b" is out of bounds\n")
             }
             Need::Entries(r) => {
-                let c = try_calls(s, g, r, &mut bits[0..b], &octets[0..o], &slab[0..n]);
-                put_case(name, c);
+                let c = try_calls(out, s, g, r, &mut bits[0..b], &octets[0..o], &slab[0..n])?;
+                put_case(out, name, c)
             }
         },
     }
 }
 
 // The first case from a place on; where the input goes on, which is its end after a case that is malformed.
-fn one(text: &[u8], at: usize, bits: &mut [u8], octets: &mut [u8], slab: &mut [u8]) -> usize {
+fn one<W: Write>(
+    out: &mut W,
+    text: &[u8],
+    at: usize,
+    bits: &mut [u8],
+    octets: &mut [u8],
+    slab: &mut [u8],
+) -> io::Result<usize> {
     match systems::read(text, at, bits, octets, slab) {
         Read::Case(s, p) => {
             let end = at_most(p.end, text.len());
             let from = at_most(p.from, end);
-            try_case(&text[from..end], s, bits, &octets[..], &slab[..]);
-            p.next
+            try_case(out, &text[from..end], s, bits, &octets[..], &slab[..])?;
+            Ok(p.next)
         }
         Read::Malformed(p) => {
-            programs::put_refused(text, p, systems::line_number(text, p.next));
-            text.len()
+            programs::put_refused(out, text, p, systems::line_number(text, p.next))?;
+            Ok(text.len())
         }
-        Read::End => text.len(),
+        Read::End => Ok(text.len()),
     }
 }
 
 // Every case of the input, up to one that is malformed.
-fn all(text: &[u8]) {
+fn all<W: Write>(out: &mut W, text: &[u8]) -> io::Result<()> {
     let mut bits = [0u8; programs::BITS_ROOM];
     let mut octets = [0u8; programs::OCTETS_ROOM];
     let mut slab = [0u8; SLAB_ROOM];
     let mut at = 0;
     while at < text.len() {
-        let next = one(text, at, &mut bits, &mut octets, &mut slab);
+        let next = one(out, text, at, &mut bits, &mut octets, &mut slab)?;
         if next <= at {
-            return;
+            return Ok(());
         }
         at = next;
     }
+    Ok(())
 }
 
 // Every case of standard input.
-fn main() {
+fn main(rt: HostRuntime) -> io::Result<()> {
     let mut input = [0u8; MOST_TEXT + 1];
-    let n = io::read_full(STDIN_FILENO, &mut input);
+    let n = read_full(&mut rt.stdin(), &mut input)?;
+    let mut out = io::writer(&rt);
     if MOST_TEXT < n {
-        put(b"refused: the input is longer than 262144 bytes\n");
-        return;
+        return put(
+            &mut out,
+            b"refused: the input is longer than 262144 bytes\n",
+        );
     }
-    all(&input[..n]);
+    all(&mut out, &input[..n])
 }

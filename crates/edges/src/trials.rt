@@ -10,6 +10,8 @@ use crate::{FAULTS, FILL, FILL_BYTE, FILL_WORD, MOST_LIST, ROOMS, SLAB_ROOM};
 use params::Sizes;
 use programs::{LINE_ROOM, SIZES_ROOM, WORK_ROOM, at_most};
 use solver::{Answer, Rooms};
+use std::io;
+use std::io::Write;
 use systems::System;
 
 // Whether list, order and vector are zeros from these places on.
@@ -118,7 +120,8 @@ fn tries(octet: bool) -> usize {
 }
 
 // The calls in rooms that just suffice, or are one short, and those with faults.
-fn try_tight(
+fn try_tight<W: Write>(
+    out: &mut W,
     l: Lent,
     first: Answer,
     clean: bool,
@@ -130,13 +133,18 @@ fn try_tight(
     list: &[u64],
     order: &[usize],
     vector: &[u8],
-) -> Compared {
+) -> io::Result<Compared> {
     let e = again(l, bits, octets, slab, solved, list, order, vector);
     let a = e.answer;
-    let full = is_right(is_same(e, first), b"wrong not full", a);
-    let rooms = refused(l, 0, ROOMS, bits, octets, slab, solved, list, order, vector);
-    let short = short_list(rooms, l, bits, octets, slab, solved, list, order, vector);
+    let full = is_right(out, is_same(e, first), b"wrong not full", a)?;
+    let rooms = refused(
+        out, l, 0, ROOMS, bits, octets, slab, solved, list, order, vector,
+    )?;
+    let short = short_list(
+        out, rooms, l, bits, octets, slab, solved, list, order, vector,
+    )?;
     let damaged = refused(
+        out,
         l,
         ROOMS,
         tries(l.octet),
@@ -147,8 +155,8 @@ fn try_tight(
         list,
         order,
         vector,
-    );
-    Compared {
+    )?;
+    Ok(Compared {
         answer: solver::number(first),
         length: h.length,
         clean,
@@ -157,11 +165,12 @@ fn try_tight(
         short,
         damaged,
         twos: 0,
-    }
+    })
 }
 
 // Every call after the first one but those with a 2.
-fn try_rooms(
+fn try_rooms<W: Write>(
+    out: &mut W,
     s: System,
     rooms: Rooms,
     o: Outcome,
@@ -172,14 +181,16 @@ fn try_rooms(
     list: &[u64],
     order: &[usize],
     vector: &[u8],
-) -> Compared {
+) -> io::Result<Compared> {
     let first = o.answer;
     let clean = is_right(
+        out,
         is_clean(o, s.l, slab, solved, list, order, vector),
         b"wrong not clean",
         first,
-    );
+    )?;
     let h = halve(
+        out,
         ample(s),
         first,
         bits,
@@ -189,9 +200,10 @@ fn try_rooms(
         list,
         order,
         vector,
-    );
-    is_right(reports(first, h.length), b"wrong length", first);
+    )?;
+    is_right(out, reports(first, h.length), b"wrong length", first)?;
     try_tight(
+        out,
         tight(s, h.length, rooms),
         first,
         clean,
@@ -207,7 +219,8 @@ fn try_rooms(
 }
 
 // Every call after the first one.
-fn compare(
+fn compare<W: Write>(
+    out: &mut W,
     s: System,
     g: Sizes,
     rooms: Rooms,
@@ -219,10 +232,13 @@ fn compare(
     list: &[u64],
     order: &[usize],
     vector: &[u8],
-) -> Compared {
-    let mut c = try_rooms(s, rooms, o, bits, octets, slab, solved, list, order, vector);
+) -> io::Result<Compared> {
+    let mut c = try_rooms(
+        out, s, rooms, o, bits, octets, slab, solved, list, order, vector,
+    )?;
     let first = o.answer;
     let twos = twos_right(
+        out,
         tight(s, c.length, rooms),
         g,
         first,
@@ -233,13 +249,14 @@ fn compare(
         list,
         order,
         vector,
-    );
+    )?;
     c.twos = twos;
-    c
+    Ok(c)
 }
 
 // The first call, in buffers of its own, and what follows it.
-fn first_call(
+fn first_call<W: Write>(
+    out: &mut W,
     s: System,
     g: Sizes,
     rooms: Rooms,
@@ -250,22 +267,23 @@ fn first_call(
     list: &mut [u64],
     order: &mut [usize],
     vector: &mut [u8],
-) -> Compared {
+) -> io::Result<Compared> {
     let o = call(ample(s), bits, octets, solved, list, order, vector);
     compare(
-        s, g, rooms, o, bits, octets, slab, solved, list, order, vector,
+        out, s, g, rooms, o, bits, octets, slab, solved, list, order, vector,
     )
 }
 
 // A case that is within the bounds.
-pub(crate) fn try_calls(
+pub(crate) fn try_calls<W: Write>(
+    out: &mut W,
     s: System,
     g: Sizes,
     rooms: Rooms,
     bits: &mut [u8],
     octets: &[u8],
     slab: &[u8],
-) -> Compared {
+) -> io::Result<Compared> {
     let mut solved = [0u8; SLAB_ROOM];
     let mut list = [FILL_WORD; MOST_LIST];
     let mut order = [FILL; LINE_ROOM];
@@ -273,6 +291,7 @@ pub(crate) fn try_calls(
     copy(slab, &mut solved);
     let n = at_most(s.slab, SLAB_ROOM);
     first_call(
+        out,
         s,
         g,
         rooms,

@@ -9,6 +9,8 @@ use crate::told::{Lent, Seen};
 use params::Sizes;
 use programs::at_most;
 use solver::Answer;
+use std::io;
+use std::io::Write;
 
 // How many calls with a 2 in the binary matrix there are.
 const TWOS: usize = 7;
@@ -59,7 +61,8 @@ fn with_two(l: Lent, which: usize) -> Lent {
 }
 
 // A call with a 2 at a place of the binary matrix.
-fn try_two(
+fn try_two<W: Write>(
+    out: &mut W,
     n: usize,
     l: Lent,
     g: Sizes,
@@ -72,10 +75,10 @@ fn try_two(
     list: &[u64],
     order: &[usize],
     vector: &[u8],
-) -> usize {
+) -> io::Result<usize> {
     let p = place(g, bits.len(), which);
     if bits.len() <= p {
-        return n;
+        return Ok(n);
     }
     let old = bits[p];
     bits[p] = 2;
@@ -92,6 +95,7 @@ fn try_two(
     bits[p] = old;
     let a = e.answer;
     count_at(
+        out,
         n,
         is_two_right(l.octet, which, e, first),
         b"wrong two at ",
@@ -101,7 +105,8 @@ fn try_two(
 }
 
 // How many calls with a 2 in the binary matrix are right.
-pub(crate) fn twos_right(
+pub(crate) fn twos_right<W: Write>(
+    out: &mut W,
     l: Lent,
     g: Sizes,
     first: Answer,
@@ -112,14 +117,14 @@ pub(crate) fn twos_right(
     list: &[u64],
     order: &[usize],
     vector: &[u8],
-) -> usize {
+) -> io::Result<usize> {
     let mut right = 0;
     let mut which = 0;
     while which < TWOS {
         right = try_two(
-            right, l, g, which, first, bits, octets, slab, solved, list, order, vector,
-        );
+            out, right, l, g, which, first, bits, octets, slab, solved, list, order, vector,
+        )?;
         which += 1;
     }
-    right
+    Ok(right)
 }

@@ -1,10 +1,12 @@
-// What the programs share: text on standard output, and the call over rooms for any system within the bounds.
+// What the programs share: text on a writer, what a reader gives, and the call over rooms for any system within the bounds.
 #![tactic(auto)]
 
 mod calling;
+mod reading;
 mod writing;
 
 pub use calling::{octet_rows, solve_case};
+pub use reading::read_full;
 pub use writing::{
     at_most, put, put_bytes, put_count, put_name, put_number, put_part, put_refused,
 };

@@ -1,27 +1,28 @@
-// Text on standard output.
+// Text on a writer.
 ghost use Rattle.std.specs.Prelude.{◌≡◌, ◌+◌, ◌*◌, ◌≤◌, ◌<◌, length};
 ghost use Rattle.programs.specs.Calls.{at_most};
 
-use libc::STDOUT_FILENO;
+use std::io;
+use std::io::Write;
 use systems::Place;
 
 // How many bytes are spelt and written at once.
 const BLOCK: usize = 256;
 
-// Writes bytes to standard output.
-pub fn put(text: &[u8]) {
-    io::write_all(STDOUT_FILENO, text);
+// Writes bytes.
+pub fn put<W: Write>(out: &mut W, text: &[u8]) -> io::Result<()> {
+    out.write_all(text)
 }
 
 // Writes a number in decimal.
-pub fn put_number(n: usize) {
-    io::print_decimal(STDOUT_FILENO, n as u64);
+pub fn put_number<W: Write>(out: &mut W, n: usize) -> io::Result<()> {
+    write!(out, "{n}")
 }
 
 // A name and a number.
-pub fn put_count(name: &[u8], n: usize) {
-    put(name);
-    put_number(n);
+pub fn put_count<W: Write>(out: &mut W, name: &[u8], n: usize) -> io::Result<()> {
+    put(out, name)?;
+    put_number(out, n)
 }
 
 // The hexadecimal digit of a number's last four bits.
@@ -43,13 +44,13 @@ fn spell(bytes: &[u8], out: &mut [u8])
 }
 
 // Writes a block of bytes as digits.
-fn put_block(bytes: &[u8])
+fn put_block<W: Write>(out: &mut W, bytes: &[u8]) -> io::Result<()>
     requires { length bytes.now ≤ 256 }
 {
     let mut digits = [0u8; 2 * BLOCK];
     spell(bytes, &mut digits);
     let n = 2 * bytes.len();
-    put(&digits[0..n]);
+    put(out, &digits[0..n])
 }
 
 // Where the block ends that begins at a place before the end.
@@ -64,13 +65,14 @@ fn block_end(from: usize, end: usize) -> usize
 }
 
 // Writes bytes as digits.
-pub fn put_bytes(bytes: &[u8]) {
+pub fn put_bytes<W: Write>(out: &mut W, bytes: &[u8]) -> io::Result<()> {
     let mut i = 0;
     while i < bytes.len() {
         let end = block_end(i, bytes.len());
-        put_block(&bytes[i..end]);
+        put_block(out, &bytes[i..end])?;
         i = end;
     }
+    Ok(())
 }
 
 // The number, or the most that is asked for.
@@ -82,26 +84,25 @@ pub fn at_most(n: usize, most: usize) -> usize
 }
 
 // Writes the bytes from a place on, up to an end, as digits.
-pub fn put_part(bytes: &[u8], from: usize, end: usize) {
+pub fn put_part<W: Write>(out: &mut W, bytes: &[u8], from: usize, end: usize) -> io::Result<()> {
     let e = at_most(end, bytes.len());
     let a = at_most(from, e);
-    put_bytes(&bytes[a..e]);
+    put_bytes(out, &bytes[a..e])
 }
 
 // The line of a case's name.
-pub fn put_name(text: &[u8], p: Place) {
+pub fn put_name<W: Write>(out: &mut W, text: &[u8], p: Place) -> io::Result<()> {
     let e = at_most(p.end, text.len());
     let a = at_most(p.from, e);
-    put(&text[a..e]);
-    put(b"\n");
+    put(out, &text[a..e])?;
+    put(out, b"\n")
 }
 
 // Why a case is not taken: it goes wrong at the line of this number, or the text ends before it does.
-pub fn put_refused(text: &[u8], p: Place, line: usize) {
+pub fn put_refused<W: Write>(out: &mut W, text: &[u8], p: Place, line: usize) -> io::Result<()> {
     if text.len() <= p.next {
-        put(b"refused: the case has no line go\n");
-        return;
+        return put(out, b"refused: the case has no line go\n");
     }
-    put_count(b"refused line ", line);
-    put(b": not a line that a case can have there\n");
+    put_count(out, b"refused line ", line)?;
+    put(out, b": not a line that a case can have there\n")
 }

@@ -7,7 +7,10 @@
 
 mod text;
 
-use libc::{STDIN_FILENO, STDOUT_FILENO};
+ghost use Rattle.std.specs.Prelude.{◌≤◌, length, IfOk};
+
+use std::io;
+use std::io::{Read, Write};
 use symbol_slab::Answer;
 
 // What a case starts with.
@@ -35,18 +38,18 @@ fn read_head(input: &[u8], at: usize) -> Head {
 }
 
 // An answer's number, how symbols are then read, and whether the slab is as it has to be.
-fn say(answer: Answer, same: bool) {
+fn say<W: Write>(out: &mut W, answer: Answer, same: bool) -> io::Result<()> {
     match answer {
-        Answer::ByOrder => io::write_all(STDOUT_FILENO, b" 0 by order"),
-        Answer::InPlace => io::write_all(STDOUT_FILENO, b" 0 in place"),
-        Answer::BadShape => io::write_all(STDOUT_FILENO, b" 2"),
-        Answer::BadList => io::write_all(STDOUT_FILENO, b" 8"),
-        Answer::NotUndoable => io::write_all(STDOUT_FILENO, b" 9"),
-    };
+        Answer::ByOrder => out.write_all(b" 0 by order"),
+        Answer::InPlace => out.write_all(b" 0 in place"),
+        Answer::BadShape => out.write_all(b" 2"),
+        Answer::BadList => out.write_all(b" 8"),
+        Answer::NotUndoable => out.write_all(b" 9"),
+    }?;
     if same {
-        io::write_all(STDOUT_FILENO, b" same");
+        out.write_all(b" same")
     } else {
-        io::write_all(STDOUT_FILENO, b" other");
+        out.write_all(b" other")
     }
 }
 
@@ -77,7 +80,8 @@ fn same_bytes(input: &[u8], at: usize, bytes: &[u8]) -> bool {
 }
 
 // The list applied and undone; before and after are the places of the two slabs in the input.
-fn compare(
+fn compare<W: Write>(
+    out: &mut W,
     h: Head,
     input: &[u8],
     before: usize,
@@ -85,22 +89,29 @@ fn compare(
     list: &[u64],
     order: &[usize],
     bytes: &mut [u8],
-) {
-    io::write_all(STDOUT_FILENO, b"replay");
+) -> io::Result<()> {
+    out.write_all(b"replay")?;
     let r = symbol_slab::replay(h.m, h.l, h.t, list, h.ordered, order, bytes);
-    say(r, same_bytes(input, after, &bytes[..]));
-    io::write_all(STDOUT_FILENO, b" undo");
+    say(out, r, same_bytes(input, after, &bytes[..]))?;
+    out.write_all(b" undo")?;
     let u = symbol_slab::undo(h.m, h.l, h.t, list, h.ordered, order, bytes);
     if is_not_undoable(u) {
-        say(u, same_bytes(input, after, &bytes[..]));
+        say(out, u, same_bytes(input, after, &bytes[..]))?;
     } else {
-        say(u, same_bytes(input, before, &bytes[..]));
+        say(out, u, same_bytes(input, before, &bytes[..]))?;
     }
-    io::write_all(STDOUT_FILENO, b"\n");
+    out.write_all(b"\n")
 }
 
 // The case at a place, and the place after it.
-fn one(input: &[u8], at: usize, list: &mut [u64], order: &mut [usize], bytes: &mut [u8]) -> usize {
+fn one<W: Write>(
+    out: &mut W,
+    input: &[u8],
+    at: usize,
+    list: &mut [u64],
+    order: &mut [usize],
+    bytes: &mut [u8],
+) -> io::Result<usize> {
     let h = read_head(input, at);
     let ops = text::fill_list(input, h.next, list);
     let rows = text::fill_rows(input, ops.next, order);
@@ -109,6 +120,7 @@ fn one(input: &[u8], at: usize, list: &mut [u64], order: &mut [usize], bytes: &m
     let o = rows.count;
     let s = row.count;
     compare(
+        out,
         h,
         input,
         rows.next,
@@ -116,28 +128,44 @@ fn one(input: &[u8], at: usize, list: &mut [u64], order: &mut [usize], bytes: &m
         &list[0..n],
         &order[0..o],
         &mut bytes[0..s],
-    );
+    )?;
     let end = text::fill_bytes(input, row.next, bytes);
-    end.next
+    Ok(end.next)
 }
 
 // Every case.
-fn all(input: &[u8]) {
+fn all<W: Write>(out: &mut W, input: &[u8]) -> io::Result<()> {
     let mut list = [0u64; 4096];
     let mut order = [0usize; 512];
     let mut bytes = [0u8; 4096];
     let mut at = text::seek(input, 0);
     while at < input.len() {
-        let next = one(input, at, &mut list, &mut order, &mut bytes);
+        let next = one(out, input, at, &mut list, &mut order, &mut bytes)?;
         if next <= at {
-            return;
+            return Ok(());
         }
         at = text::seek(input, next);
     }
+    Ok(())
 }
 
-fn main() {
+// Reads until the buffer is full or the input ends, and returns how many bytes it put at the front.
+fn read_full<R: Read>(input: &mut R, buffer: &mut [u8]) -> io::Result<usize>
+    ensures { IfOk result (λ n. n ≤ length buffer.new) }
+{
+    let mut done = 0;
+    while done < buffer.len() {
+        let got = input.read(&mut buffer[done..])?;
+        if got == 0 {
+            break;
+        }
+        done += got;
+    }
+    Ok(done)
+}
+
+fn main(rt: HostRuntime) -> io::Result<()> {
     let mut input = [0u8; 524288];
-    let n = io::read_full(STDIN_FILENO, &mut input);
-    all(&input[..n]);
+    let n = read_full(&mut rt.stdin(), &mut input)?;
+    all(&mut io::writer(&rt), &input[..n])
 }
