@@ -1,9 +1,7 @@
 -- `all` is safe and ends. Assumes nothing.
 use Prim.Native.Nat.{◌-◌}
 use lib.ListN.{length}
-use mathlib.Core.Path.{◌≡◌, refl}
-use native.Mathlib.Omega.{arith}
-use borrow.Author.Rules.{rules}
+use mathlib.Core.Path.{◌≡◌}
 use Rattle.edges.proofs.all.Given as goal
 
 abbrev pub invariant-loop-at : goal.invariant-loop-at

@@ -1,6 +1,5 @@
 -- `faults::refused` is safe and ends. Assumes nothing.
 use Prim.Native.Nat.{◌-◌}
-use borrow.Author.Rules.{rules}
 use Rattle.edges.proofs.faults.refused.Given as goal
 
 abbrev pub decreases-loop-which : goal.decreases-loop-which

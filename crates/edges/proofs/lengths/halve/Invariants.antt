@@ -1,6 +1,5 @@
 -- `lengths::halve` is safe and ends. Assumes nothing.
 use Prim.Native.Nat.{◌-◌, ◌≤◌}
-use borrow.Author.Rules.{rules}
 use Rattle.edges.proofs.lengths.halve.Given as goal
 
 abbrev pub invariant-loop-low : goal.invariant-loop-low

@@ -1,7 +1,6 @@
 -- `same::bytes_begin` is safe and ends. Assumes nothing.
 use Prim.Native.Nat.{◌-◌, ◌≤◌}
 use lib.ListN.{length}
-use borrow.Author.Rules.{rules}
 use Rattle.edges.proofs.same.bytes_begin.Given as goal
 
 abbrev pub invariant-loop-i : goal.invariant-loop-i
