@@ -1,6 +1,5 @@
 -- Operations that change nothing.
 --   idle       an operation whose source holds zero in a column leaves the column alone
---   restored   a list between the undo of another and that other, which leaves alone what it meets, changes nothing
 -- Assumes nothing.
 use Rattle.std.specs.Prelude.{◌≡◌, refl, Bool, true, false, List, ◌++◌, ℕ, eqb}
 use Rattle.std.proofs.Common.{sym, ap, ◌∙◌, eqb-true}
@@ -11,7 +10,7 @@ use Rattle.oplist.specs.declared.Op.{Op}
 use Rattle.oplist.specs.declared.Op.TheVariants.{AddAssign, MulAssign, FMA}
 use Rattle.oplist.specs.Ops.{dest, source, Each}
 use Rattle.algebra.specs.Sums.{pick}
-use Rattle.algebra.specs.Rows.{value, step, run, undo, Good, run-append, run-undo}
+use Rattle.algebra.specs.Rows.{value, step, run, undo, Good, run-append}
 
 -- so row work may start at the first column that is not zero
 pub idle : (o : Op) (v : ℕ → ℕ) → Good o → v (source o) ≡ 0 → step o v ≡ v
@@ -25,11 +24,3 @@ idle o v g e = fun_ext (λ r. at r (eqb r (dest o)) refl)
     at : (r : ℕ) (b : Bool) → eqb r (dest o) ≡ b → pick b (value o v) (v r) ≡ v r
     at r true p = val o e ∙ ap v (sym (eqb-true r (dest o) p))
     at r false p = refl
-
--- phases three to five: p are phase one's additions among the first rows, q what phase four records
-pub restored : (p q : List Op) (v : ℕ → ℕ) → Each Good p → Octets v → run q (run (undo p) v) ≡ run (undo p) v
-    → run (undo p ++ q ++ p) v ≡ v
-restored p q v g h e =
-    run-append (undo p ++ q) p v
-    ∙ ap (run p) (run-append (undo p) q v ∙ e)
-    ∙ run-undo p v g h

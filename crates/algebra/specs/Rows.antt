@@ -7,9 +7,6 @@
 --   value, step, run, runs  what an operation writes; a column after an operation, after a list; a matrix after a list
 --   inverse, undo           the operation that undoes one; the list that undoes one, last operation first
 --   step_octet, run_octet   octets stay octets
---   back, forth             an operation and what undoes it, and the other way round, change nothing
---   undo-run, run-undo      a list and its undo, and the other way round, change nothing
---   good_undo, within_undo  what undoes a good list is good, within the same rows
 --   run-append              two lists after each other
 --   step_local, run_local   rows below m depend on rows below m only
 --   run-zero                zeros stay zeros
@@ -19,7 +16,8 @@ use Rattle.std.specs.Prelude.{◌≡◌, refl, ◌≢◌, Bool, true, false, Lis
 use Rattle.std.proofs.Common.{sym, ap, ap₂, ◌∙◌, arith, eqb-true}
 use Rattle.std.proofs.Math.Path.{fun_ext}
 use Rattle.octet.specs.Octet.{add, mul, inverse as inv}
-use Rattle.octet.specs.Field.{add_octet, add-zero, inv_mul, inv_octet, mul_octet, zero-mul, add-undo, mul-undo, mul_redo, mul-zero, Octet, Octets}
+use Rattle.octet.specs.Field.{add_octet, add-zero, inv_octet, mul_octet, zero-mul, add-undo, mul-zero, Octet, Octets}
+use Rattle.octet.proofs.Field.{inv_mul, mul-undo, mul_redo}
 use Rattle.oplist.specs.declared.Op.{Op}
 use Rattle.oplist.specs.declared.Op.TheVariants.{AddAssign, MulAssign, FMA}
 use Rattle.oplist.specs.Ops.{dest, Each, each_append}
@@ -87,60 +85,9 @@ pub run_octet : (os : List Op) (v : ℕ → ℕ) → Octets v → Octets (run os
 run_octet [] v h = h
 run_octet (o ∷ os) v h = run_octet os (step o v) (step_octet o v h)
 
-pub back : (o : Op) (v : ℕ → ℕ) → Good o → Octets v → step (inverse o) (step o v) ≡ v
-back (AddAssign d s) v g h =
-    let n : ℕ = add (v d) (v s) in
-    put_back v d n (add (put v d n d) (put v d n s))
-    (ap₂ (λ (x y : ℕ). add x y) (put_same v d n d refl) (put_other v d n s g) ∙ add-undo (v d) (v s))
-back (MulAssign d c) v g h =
-    let n : ℕ = mul c (v d) in
-    put_back v d n (mul (inv c) (put v d n d))
-    (ap (λ (x : ℕ). mul (inv c) x) (put_same v d n d refl) ∙ mul-undo c (v d) g.0 g.1 (h d))
-back (FMA d s c) v g h =
-    let n : ℕ = add (v d) (mul c (v s)) in
-    put_back v d n (add (put v d n d) (mul c (put v d n s)))
-    (ap₂ (λ (x y : ℕ). add x (mul c y)) (put_same v d n d refl) (put_other v d n s g) ∙ add-undo (v d) (mul c (v s)))
-
-pub forth : (o : Op) (v : ℕ → ℕ) → Good o → Octets v → step o (step (inverse o) v) ≡ v
-forth (AddAssign d s) v g h = back (AddAssign d s) v g h
-forth (MulAssign d c) v g h =
-    let n : ℕ = mul (inv c) (v d) in
-    put_back v d n (mul c (put v d n d))
-    (ap (λ (x : ℕ). mul c x) (put_same v d n d refl) ∙ mul_redo c (v d) g.0 g.1 (h d))
-forth (FMA d s c) v g h = back (FMA d s c) v g h
-
 pub run-append : (os ps : List Op) (v : ℕ → ℕ) → run (os ++ ps) v ≡ run ps (run os v)
 run-append [] ps v = refl
 run-append (o ∷ os) ps v = run-append os ps (step o v)
-
-pub undo-run : (os : List Op) (v : ℕ → ℕ) → Each Good os → Octets v → run (undo os) (run os v) ≡ v
-undo-run [] v g h = refl
-undo-run (o ∷ os) v g h =
-    run-append (undo os) (inverse o ∷ []) (run os (step o v))
-    ∙ ap (λ (w : ℕ → ℕ). step (inverse o) w) (undo-run os (step o v) g.1 (step_octet o v h))
-    ∙ back o v g.0 h
-
-good_inverse : (o : Op) → Good o → Good (inverse o)
-good_inverse (AddAssign d s) g = g
-good_inverse (MulAssign d c) g = (inv_octet c, nonzero)
-  where
-    nonzero : inv c ≢ 0
-    nonzero e =
-        let z : ◌≡◌ {A = ℕ} 0 1 = sym (zero-mul c) ∙ ap (λ (x : ℕ). mul x c) (sym e) ∙ inv_mul c g.0 g.1 in
-        omega arith
-good_inverse (FMA d s c) g = g
-
-pub good_undo : (os : List Op) → Each Good os → Each Good (undo os)
-good_undo [] g = tt
-good_undo (o ∷ os) g = each_append Good (undo os) (inverse o ∷ []) (good_undo os g.1) (good_inverse o g.0, tt)
-
-pub run-undo : (os : List Op) (v : ℕ → ℕ) → Each Good os → Octets v → run os (run (undo os) v) ≡ v
-run-undo [] v g h = refl
-run-undo (o ∷ os) v g h =
-    let w : ℕ → ℕ = run (undo os) v in
-    ap (λ (u : ℕ → ℕ). run os (step o u)) (run-append (undo os) (inverse o ∷ []) v)
-    ∙ ap (λ (u : ℕ → ℕ). run os u) (forth o w g.0 (run_octet (undo os) v h))
-    ∙ run-undo os v g.1 h
 
 pub step_local : (m : ℕ) (o : Op) (v w : ℕ → ℕ) → Within m o → ((r : ℕ) → r < m → v r ≡ w r) → (r : ℕ) → r < m → step o v r ≡ step o w r
 step_local m o v w b h r l = at (eqb r (dest o))
@@ -158,16 +105,6 @@ pub run_local : (m : ℕ) (os : List Op) (v w : ℕ → ℕ) → Each (Within m)
     → (r : ℕ) → r < m → run os v r ≡ run os w r
 run_local m [] v w b h = h
 run_local m (o ∷ os) v w b h = run_local m os (step o v) (step o w) b.1 (step_local m o v w b.0 h)
-
-within_inverse : (m : ℕ) (o : Op) → Within m o → Within m (inverse o)
-within_inverse m (AddAssign d s) b = b
-within_inverse m (MulAssign d c) b = b
-within_inverse m (FMA d s c) b = b
-
-pub within_undo : (m : ℕ) (os : List Op) → Each (Within m) os → Each (Within m) (undo os)
-within_undo m [] b = tt
-within_undo m (o ∷ os) b =
-    each_append (Within m) (undo os) (inverse o ∷ []) (within_undo m os b.1) (within_inverse m o b.0, tt)
 
 pub run-zero : (os : List Op) → run os (λ _. 0) ≡ (λ _. 0)
 run-zero [] = refl

@@ -3,8 +3,6 @@
 --   Stuck         the first p rows are an upper triangle with ones on the diagonal, and the rows from p on have no nonzero up to column p
 --   Substituted   the vector of a stuck matrix
 --   sent          a stuck matrix sends its vector to zeros
---   singular      put back in the matrix's own order of columns, the vector is sent to zeros, and is not all zeros
---   never         a matrix that sends such a vector to zeros is reduced by no list
 -- Assumes nothing.
 use Rattle.std.specs.Prelude.{◌≡◌, refl, ◌≢◌, Bool, true, false, List, ℕ, ◌<◌, ◌≤◌, eqb, ltb}
 use Rattle.std.proofs.Common.{sym, ap, ap₂, ◌∙◌, arith, eqb-true, ltb-true, ltb-false}
@@ -13,8 +11,8 @@ use Rattle.octet.specs.Octet.{add, mul}
 use Rattle.octet.specs.Field.{add_self, add-zero, zero-mul, zero-add, mul-zero, Octets}
 use Rattle.oplist.specs.declared.Op.{Op}
 use Rattle.algebra.specs.Sums.{pick, delta, dot, sum_ext, sum-zero, dot-add}
-use Rattle.algebra.specs.Solve.{Makes, Reduces, dot-unit, injective}
-use Rattle.algebra.specs.Order.{Arranged, arranged_kernel}
+use Rattle.algebra.specs.Solve.{Makes, Reduces, dot-unit}
+use Rattle.algebra.specs.Order.{Arranged}
 
 -- what stands right of the diagonal in row i
 abbrev pub right : (ℕ → ℕ → ℕ) → ℕ → ℕ → ℕ
@@ -63,18 +61,3 @@ sent m n p W x K S i l = at (ltb i p) refl
     at : (b : Bool) → ltb i p ≡ b → dot n (W i) x ≡ 0
     at true e = upper (ltb-true i p e)
     at false e = lower (ltb-false i p e)
-
-pub singular : (m n p : ℕ) (os : List Op) (A W : ℕ → ℕ → ℕ) (rd rd' c c' : ℕ → ℕ) → Arranged m n os A W rd rd' c c'
-    → (x y : ℕ → ℕ) → Stuck m n p W → Substituted n p W x
-    → ((j : ℕ) → j < n → y (c j) ≡ x j) → Makes m n A y (λ _. 0) × (c p < n) × (y (c p) ≡ 1)
-singular m n p os A W rd rd' c c' H x y K S e = (
-  arranged_kernel m n os A W rd rd' c c' H x y e (sent m n p W x K S),
-  H.cols.into p K.column,
-  e p K.column ∙ S.one,
-)
-
-pub never : (m n : ℕ) (os : List Op) (A : ℕ → ℕ → ℕ) (order y : ℕ → ℕ) (k : ℕ) → Octets y
-    → Makes m n A y (λ _. 0) → k < n → y k ≡ 1 → Reduces m n os A order → ⊥
-never m n os A order y k hy h l e R =
-    let z : y k ≡ 0 = injective m n os A order R y hy h k l in
-    omega arith

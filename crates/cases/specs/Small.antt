@@ -28,7 +28,8 @@ use Rattle.loops.specs.Loop.{for_to, up}
 use Rattle.loops.specs.Way.{for_way}
 use Rattle.loops.specs.Room.{log, puts, puts_fit}
 use Rattle.octet.specs.Octet.{add, times, product, rest, mul, squares, inverse, quotient}
-use Rattle.octet.specs.Examples.{two-by_128, three-by-three, half}
+use Rattle.octet.specs.Examples.{three-by-three}
+use Rattle.octet.proofs.Examples.{two-by_128, half}
 use Rattle.oplist.specs.Count.{adds, muls}
 use Rattle.oplist.specs.declared.Op.TheVariants.{AddAssign, MulAssign, FMA}
 use Rattle.bounds.specs.Bounds.{most_bytes, most_ops}

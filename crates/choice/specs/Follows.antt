@@ -9,7 +9,8 @@ use Rattle.rule.specs.Lists.{In, least_pos}
 use Rattle.rule.specs.Permitted.{count, Permitted}
 use Rattle.rule.specs.Sets.{least_pos_le, least_pos-at}
 use Rattle.rule.specs.Rule.{Marks, choose}
-use Rattle.rule.specs.Chosen.{Good, chosen_permitted}
+use Rattle.rule.specs.Chosen.{Good}
+use Rattle.rule.proofs.Chosen.{chosen_permitted}
 
 -- what is permitted has as many ones as the least
 permitted_least : (row : ℕ → ℕ → Bool) (deg : ℕ → ℕ) (C E : List ℕ) (x : ℕ) → Permitted row deg C E x → count row C x ≡ least_pos (count row C) E

@@ -31,10 +31,13 @@ use Rattle.grid.specs.Grid.{bit, gone}
 use Rattle.phases.specs.System.{Shape, range, combined, first_rows, octet_rows}
 use Rattle.phases.specs.Matrix.{length-range, get_or-range, in_range}
 use Rattle.phases.specs.One.{entry, clears}
-use Rattle.phases.specs.Combined.{combined_octet, combined_binary}
+use Rattle.phases.specs.Combined.{combined_octet}
+use Rattle.phases.proofs.Combined.{combined_binary}
 use Rattle.phases.specs.Occ.{occ-append, occ-range, in_member, member_in}
-use Rattle.phases.specs.Forward.{clears_alike, entry-multiple}
-use Rattle.phases.specs.Fit.{rows_once, less?}
+use Rattle.phases.specs.Forward.{clears_alike}
+use Rattle.phases.proofs.Forward.{entry-multiple}
+use Rattle.phases.specs.Fit.{less?}
+use Rattle.phases.proofs.Fit.{rows_once}
 use Rattle.tally.specs.Book.{Book, note, Noted, Fair, fair_note, length-note}
 
 pub record Binary (l : ℕ) (m : List ℕ) (q : ℕ) (ys : List ℕ) : Type 0 where

@@ -28,7 +28,8 @@ use Rattle.std.proofs.lemmas.Bool.{eqb-false}
 use Rattle.rule.specs.Permitted.{count}
 use Rattle.rule.specs.Sets.{bool_or, length-filter}
 use Rattle.rule.specs.Rule.{Cut, rev, found, put, swept, filled, arrange}
-use Rattle.rule.specs.Places.{front, back, turn-zero, turn_one, turn-none, turns_end}
+use Rattle.rule.specs.Places.{front, back, turn-zero, turns_end}
+use Rattle.rule.proofs.Places.{turn_one, turn-none}
 use Rattle.grid.specs.Grid.{Under}
 use Rattle.columns.specs.First.{first_at}
 use Rattle.columns.specs.Exchange.{swapped, length-swapped, exchanged, unfound}

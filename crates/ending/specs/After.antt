@@ -26,9 +26,12 @@ use Rattle.phases.specs.System.{Shape as Defined, range, combined, octet_rows}
 use Rattle.phases.specs.One.{Step, Phase, rows_of, pivots_of, phase_one, ops_one}
 use Rattle.phases.specs.Two.{Second, acts, working, forward, backward}
 use Rattle.phases.specs.Occ.{occ, tick_eq, occ-append, Member, Once}
-use Rattle.phases.specs.Fit.{Fit, all-rows, rows_once, rows-below, cols_once, cols-below}
-use Rattle.phases.specs.Sweep.{rows-kept, ops_within}
-use Rattle.phases.specs.Walk.{Walked, walked_end}
+use Rattle.phases.specs.Fit.{Fit, all-rows, cols_once, cols-below}
+use Rattle.phases.proofs.Fit.{rows_once, rows-below}
+use Rattle.phases.specs.Sweep.{rows-kept}
+use Rattle.phases.proofs.Sweep.{ops_within}
+use Rattle.phases.specs.Walk.{Walked}
+use Rattle.phases.proofs.Walk.{walked_end}
 use Rattle.phases.specs.ByPlace.{length_pivots_of}
 use Rattle.tally.specs.declared.Tally.{Tally}
 use Rattle.tally.specs.Book.{book}

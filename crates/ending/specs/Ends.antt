@@ -35,12 +35,12 @@ use Rattle.phases.specs.Rest.{kept, last-first, phase_four, by-column}
 use Rattle.phases.specs.Run.{Run, whole, finish, second, Answer as Told, answer}
 use Rattle.phases.specs.Occ.{occ-range, Member}
 use Rattle.phases.specs.Fit.{Fit, less?}
-use Rattle.phases.specs.Combined.{combined_binary}
-use Rattle.phases.specs.Choices.{never_octet}
+use Rattle.phases.proofs.Combined.{combined_binary}
+use Rattle.phases.proofs.Choices.{never_octet}
 use Rattle.phases.specs.ByPlace.{length-rows_of, length_pivots_of}
 use Rattle.phases.specs.Forward.{Ended}
 use Rattle.phases.specs.Forward as Forward
-use Rattle.phases.specs.Means.{ended, length-by-column}
+use Rattle.phases.proofs.Means.{ended, length-by-column}
 use Rattle.tally.specs.declared.Tally.{Tally}
 use Rattle.tally.specs.Book.{Book, book, note, anew}
 use Rattle.rest.specs.Marks.{flag_of}

@@ -23,7 +23,7 @@ use Rattle.phases.specs.Gauss.{ops_at, ops_two, above}
 use Rattle.phases.specs.Finish.{kept-each}
 use Rattle.phases.specs.Solved.{list_two}
 use Rattle.phases.specs.Forward.{Ended}
-use Rattle.phases.specs.Means.{ended, two_is}
+use Rattle.phases.proofs.Means.{ended, two_is}
 
 abbrev pub Scaled : Op → Type 0
 Scaled (AddAssign d s) = Unit {0}

@@ -21,7 +21,7 @@ use Rattle.phases.specs.Run.{Run, whole, finish, answer}
 use Rattle.phases.specs.Fit.{Fit}
 use Rattle.phases.specs.ByPlace.{length-rows_of, length_pivots_of}
 use Rattle.phases.specs.Forward.{Ended}
-use Rattle.phases.specs.Means.{ended, length-by-column}
+use Rattle.phases.proofs.Means.{ended, length-by-column}
 use Rattle.tally.specs.declared.Tally.{Tally}
 use Rattle.second.specs.Store.{store_of}
 use Rattle.rest.specs.Columns.{placed, placed-is}

@@ -22,8 +22,8 @@ use Rattle.algebra.specs.Flat.{Bytes}
 use Rattle.phases.specs.System.{combined}
 use Rattle.phases.specs.Run.{Run, End, solved, no_pivot, singular, whole, defined, Answer as Told, ListFull, ending, answer}
 use Rattle.phases.specs.Fit.{Fit}
-use Rattle.phases.specs.Combined.{combined_fit}
-use Rattle.phases.specs.Answers.{solved_reduces}
+use Rattle.phases.proofs.Combined.{combined_fit}
+use Rattle.phases.proofs.Answers.{solved_reduces}
 use Rattle.call.specs.declared.Shape.{Shape}
 use Rattle.call.specs.Call.{bitwise, entered, answer_of, told}
 use Rattle.ending.specs.Scalars.{Scaled, answer-scaled}

@@ -11,7 +11,7 @@ use Rattle.rule.specs.Rule.{State}
 use Rattle.phases.specs.System.{Shape}
 use Rattle.phases.specs.Matrix.{length-range}
 use Rattle.phases.specs.One.{Phase, degree, begin, step}
-use Rattle.phases.specs.Walk.{begin_walked}
+use Rattle.phases.proofs.Walk.{begin_walked}
 use Rattle.grid.specs.Grid.{bit}
 use Rattle.figures.specs.Told.{told}
 use Rattle.opening.specs.Opened.{Opens, Opened, opened_figure, begins}

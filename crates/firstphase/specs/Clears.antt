@@ -20,7 +20,8 @@ use Rattle.phases.specs.System.{Shape, range, combined, first_rows, octet_rows}
 use Rattle.phases.specs.One.{Step, Phase, rows_of, pivots_of, one, taken, clears, ops_one}
 use Rattle.phases.specs.ByPlace.{rows_join, pivots_join, length-rows_of, length_pivots_of}
 use Rattle.phases.specs.Occ.{occ-append, in_member, member_in}
-use Rattle.phases.specs.Fit.{all-rows, rows-below, cols-below}
+use Rattle.phases.specs.Fit.{all-rows, cols-below}
+use Rattle.phases.proofs.Fit.{rows-below}
 use Rattle.phases.specs.Sweep.{rows-kept}
 use Rattle.grid.specs.Grid.{Under, Rows}
 use Rattle.clearing.specs.Clear.{Binary, outside}

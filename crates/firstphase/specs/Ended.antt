@@ -23,7 +23,7 @@ use Rattle.oplist.specs.declared.Op.{Op}
 use Rattle.rule.specs.Permitted.{count}
 use Rattle.phases.specs.System.{Shape, combined, octet_rows}
 use Rattle.phases.specs.One.{Step, Phase, rows_of, pivots_of, one, begin, taking, step, phase_one, ops_one}
-use Rattle.phases.specs.Walk.{none_exactly}
+use Rattle.phases.proofs.Walk.{none_exactly}
 use Rattle.tally.specs.declared.Tally.{Tally}
 use Rattle.tally.specs.Book.{Book, book, Fair}
 use Rattle.clearing.specs.Clear.{Listed, listed-none, listed_then}

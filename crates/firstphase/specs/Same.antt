@@ -16,13 +16,15 @@ use Rattle.rule.specs.Permitted.{ones, count}
 use Rattle.rule.specs.Rule.{Marks, add_pair, add_pairs, lose, lose_first, refresh, lose_col, lose_cols, refresh_all, finish, next_singles, noted, without, Cut, cut, arrange, node, at_node, choose_at, choose, State, start, chosen, after, raw_marks, by_least}
 use Rattle.rule.specs.Singles.{Removed, exchanged, in_either}
 use Rattle.rule.specs.Chosen.{Good}
-use Rattle.rule.specs.Reached.{reached_good}
+use Rattle.rule.proofs.Reached.{reached_good}
 use Rattle.phases.specs.System.{Shape, range, combined, first_rows, octet_rows}
 use Rattle.phases.specs.One.{Phase, one, degree, begin, taken, taking, step, phase_after, phase_one}
-use Rattle.phases.specs.Combined.{combined_binary}
+use Rattle.phases.proofs.Combined.{combined_binary}
 use Rattle.phases.specs.Occ.{in_member, member_in, occ-append, occ-range, once_nodup}
-use Rattle.phases.specs.Fit.{cols_once, rows_once, less?}
-use Rattle.phases.specs.Walk.{Walked, walked, permitted}
+use Rattle.phases.specs.Fit.{cols_once, less?}
+use Rattle.phases.proofs.Fit.{rows_once}
+use Rattle.phases.specs.Walk.{Walked}
+use Rattle.phases.proofs.Walk.{walked, permitted}
 use Rattle.clearing.specs.Clear.{outside}
 use Rattle.stepping.specs.Stands.{Given}
 use Rattle.tally.specs.Book.{Book}

@@ -33,7 +33,7 @@ use Rattle.std.specs.Prelude.{◌≡◌, refl, ◌⊎◌, Bool, true, false, con
 use Rattle.std.proofs.Math.Path.{sym, ap, fun_ext}
 use Rattle.std.proofs.Common.{ap₂, subst, ◌∙◌, inl, inr, ⊎_elim, arith, length-drop, get_or-drop, ext_get_or, eqb-true, eq-eqb, ne_eqb, ltb-true, ltb-false}
 use mathlib.Core.List.{List, [], ◌∷◌, ◌++◌}
-use Rattle.rule.specs.Labels.{joint_pos}
+use Rattle.rule.proofs.Labels.{joint_pos}
 use Rattle.loops.specs.Part.{drop-next, rest_part}
 use Rattle.rule.specs.Lists.{filter, keep}
 use Rattle.rule.specs.Sets.{bool_or}

@@ -1,1 +1,4 @@
 pub mod Tables
+pub mod Powers
+pub mod Field
+pub mod Examples

@@ -4,8 +4,7 @@
 --   add_comm, add_assoc, add-zero, zero-add, add_self   addition: a group in which each element is its own inverse
 --   mul_comm, mul_assoc, mul-add, add-mul   multiplication: commutative, associative, distributes over addition
 --   one-mul, mul-one, zero-mul, mul-zero   one times an octet is the octet, zero times a number is zero, from either side
---   inv_mul               the inverse of what is not zero, times it, is one
---   exchange, add-undo, mul-undo, mul_redo   what follows: a sum of four, the middle two exchanged; an addition and a multiplication undone
+--   exchange, add-undo   what follows: a sum of four, the middle two exchanged; an addition and a multiplication undone
 -- Assumes nothing.
 use Rattle.std.specs.Prelude.{◌≡◌, ◌≢◌, ℕ, ◌<◌}
 use Rattle.std.proofs.Common.{sym, ap, ◌∙◌, pos_of_ne-zero}
@@ -75,13 +74,3 @@ mul-zero a = P.mul-zero-r a
 
 pub inv_octet : (a : ℕ) → Octet (inverse a)
 inv_octet a = W.inverse_lt a
-
-pub inv_mul : (a : ℕ) → Octet a → a ≢ 0 → mul (inverse a) a ≡ 1
-inv_mul a h nz = mul_comm (inverse a) a ∙ W.mul-inverse a (pos_of_ne-zero nz) h
-
-pub mul-undo : (c a : ℕ) → Octet c → c ≢ 0 → Octet a → mul (inverse c) (mul c a) ≡ a
-mul-undo c a hc nz ha = sym (mul_assoc (inverse c) c a) ∙ ap (λ (z : ℕ). mul z a) (inv_mul c hc nz) ∙ one-mul a ha
-
-pub mul_redo : (c a : ℕ) → Octet c → c ≢ 0 → Octet a → mul c (mul (inverse c) a) ≡ a
-mul_redo c a hc nz ha =
-    sym (mul_assoc c (inverse c) a) ∙ ap (λ (z : ℕ). mul z a) (mul_comm c (inverse c) ∙ inv_mul c hc nz) ∙ one-mul a ha

@@ -14,6 +14,7 @@ use Rattle.std.proofs.lemmas.List.{length-map}
 use Rattle.std.proofs.Math.ListN.{get_or-map}
 use Rattle.octet.specs.Octet.{add, mul, inverse}
 use Rattle.octet.specs.Field as F
+use Rattle.octet.proofs.Field as Fp
 use Rattle.octet.specs.Field.{Octet, Octets}
 use Rattle.octet.specs.Only.{only}
 use Rattle.octets.specs.Rows.{add_row, scale_row, fma_row, Added, Scaled, Fused}
@@ -83,12 +84,12 @@ module _ (d : List ℕ) (b : Octets (λ i. get_or d i 0)) where
   pub scale_row-undo : (k : ℕ) → Octet k → k ≢ 0 → scale_row (inverse k) (scale_row k d) ≡ d
   unfolding scale_row
   scale_row-undo k h nz =
-      map-map (mul (inverse k)) (mul k) d ∙ map_keeps (λ x. mul (inverse k) (mul k x)) (λ x. F.mul-undo k x h nz) d b
+      map-map (mul (inverse k)) (mul k) d ∙ map_keeps (λ x. mul (inverse k) (mul k x)) (λ x. Fp.mul-undo k x h nz) d b
 
   pub scale_row_redo : (k : ℕ) → Octet k → k ≢ 0 → scale_row k (scale_row (inverse k) d) ≡ d
   unfolding scale_row
   scale_row_redo k h nz =
-      map-map (mul k) (mul (inverse k)) d ∙ map_keeps (λ x. mul k (mul (inverse k) x)) (λ x. F.mul_redo k x h nz) d b
+      map-map (mul k) (mul (inverse k)) d ∙ map_keeps (λ x. mul k (mul (inverse k) x)) (λ x. Fp.mul_redo k x h nz) d b
 
 pub add_only : {d s e e' : List ℕ} → Added d s e → Added d s e' → e ≡ e'
 add_only p q = only p.is q.is

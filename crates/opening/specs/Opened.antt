@@ -31,7 +31,8 @@ use Rattle.phases.specs.System.{Shape, range, first_rows, octet_rows}
 use Rattle.phases.specs.One.{begin}
 use Rattle.phases.specs.Matrix.{length-range}
 use Rattle.phases.specs.Occ.{occ-append, in_member, once_nodup}
-use Rattle.phases.specs.Fit.{rows_once, rows-below, less?}
+use Rattle.phases.specs.Fit.{less?}
+use Rattle.phases.proofs.Fit.{rows_once, rows-below}
 use Rattle.opening.specs.Rows.{rows_at_first, rows-at-first}
 use Rattle.opening.specs.Marks.{Given, FirstMarked, zeros_few, under_range}
 

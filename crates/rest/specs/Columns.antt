@@ -19,7 +19,7 @@ use Rattle.std.proofs.Math.ListN.{drop, length-append, length-drop, take-append-
 use Rattle.std.proofs.lemmas.List.{set-append_left}
 use Rattle.std.proofs.Math.Seq.{drop-length}
 use Rattle.std.proofs.lemmas.Bool.{eqb-false}
-use Rattle.phases.specs.Means.{length-by-column, get_or-by-column}
+use Rattle.phases.proofs.Means.{length-by-column, get_or-by-column}
 use Rattle.loops.specs.Part.{drop-next}
 use Rattle.oplist.specs.Facts.{Rows}
 use Rattle.grid.specs.Grid.{Under}

@@ -1,6 +1,6 @@
 -- The smallest systems that tell the rule from what looks like it, computed: for each step the row, its column, and the columns that leave V with it.
 --   choices            the steps of phase one, for a matrix given by its rows
---   Ties, ties         what they are
+--   Ties         what they are
 -- Assumes nothing.
 use Rattle.std.specs.Prelude.{◌≡◌, refl, Bool, List, [], ◌∷◌, ◌++◌, ℕ, zero, suc, eqb, length, get_or}
 use Rattle.std.proofs.Math.Option.{some, none}
@@ -41,6 +41,3 @@ pub record Ties : Type 0 where
   -- the columns: a one of the middle is exchanged with the rightmost zero
   pub zero : choices 5 ((1 ∷ 1 ∷ 1 ∷ 0 ∷ 0 ∷ []) ∷ (1 ∷ 1 ∷ 0 ∷ 0 ∷ 1 ∷ []) ∷ (0 ∷ 0 ∷ 1 ∷ 1 ∷ 1 ∷ []) ∷ (1 ∷ 0 ∷ 1 ∷ 1 ∷ 0 ∷ []) ∷ (1 ∷ 0 ∷ 1 ∷ 1 ∷ 0 ∷ [])
       ∷ (1 ∷ 0 ∷ 1 ∷ 1 ∷ 1 ∷ []) ∷ []) ≡ (0 ∷ 0 ∷ 2 ∷ 1 ∷ []) ∷ (3 ∷ 3 ∷ []) ∷ (2 ∷ 4 ∷ []) ∷ []
-
-pub ties : Ties
-ties = record { singles = refl; refreshed = refl; pushed = refl; component = refl; place = refl; zero = refl }

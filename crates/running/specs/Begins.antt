@@ -25,7 +25,8 @@ use Rattle.phases.specs.One.{Phase}
 use Rattle.phases.specs.Two.{Second, forward}
 use Rattle.phases.specs.Run.{Run, whole, finish, second, refused, goes_on, defined}
 use Rattle.phases.specs.Occ.{occ-append, occ-range, Member}
-use Rattle.phases.specs.Fit.{Fit, rows_once, less?}
+use Rattle.phases.specs.Fit.{Fit, less?}
+use Rattle.phases.proofs.Fit.{rows_once}
 use Rattle.tally.specs.declared.Tally.{Tally}
 use Rattle.tally.specs.Book.{Book, book, Fair}
 use Rattle.stepping.specs.Stands.{Given}

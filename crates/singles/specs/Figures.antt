@@ -31,7 +31,8 @@ use Rattle.loops.specs.Part.{drop-next}
 use Rattle.rule.specs.Lists.{In, Nodup}
 use Rattle.rule.specs.Sets.{bool_or, in_cast, sub_length}
 use Rattle.rule.specs.Rule.{swap_remove, lose, lose_first, refresh}
-use Rattle.rule.specs.Singles.{in_either, Removed, removed, nodup_snoc}
+use Rattle.rule.specs.Singles.{in_either, Removed, nodup_snoc}
+use Rattle.rule.proofs.Singles.{removed}
 use Rattle.grid.specs.Grid.{gone, Under, Rows}
 use Rattle.figures.specs.Told.{Taken}
 use Rattle.singles.specs.Facts.{Kept, front-one}

@@ -44,8 +44,10 @@ use Rattle.oplist.specs.Facts.{Rows, shape-shape_fine, order-order_fine, each-un
 use Rattle.algebra.specs.Sums.{delta, pick}
 use Rattle.algebra.specs.Rows.{Good, runs, undo}
 use Rattle.algebra.specs.Solve.{Unnamed, Reduces}
-use Rattle.algebra.specs.Flat.{Bytes, acts, length-acts, undo-acts}
-use Rattle.algebra.specs.Slab.{Source, through, solved, only, report}
+use Rattle.algebra.specs.Flat.{Bytes, acts}
+use Rattle.algebra.proofs.Flat.{length-acts, undo-acts}
+use Rattle.algebra.specs.Slab.{Source, through}
+use Rattle.algebra.proofs.Slab.{solved, only, report}
 use Rattle.symbol_slab.specs.declared.Answer.TheVariants.{InPlace}
 use Rattle.symbol_slab.specs.Replay.{read_by, slab_shaped, checked as slabChecked, outcome as slabbed, replayed, undone}
 use Rattle.rule.specs.Permitted.{Permitted}
@@ -53,11 +55,14 @@ use Rattle.rule.specs.Rule.{chosen}
 use Rattle.phases.specs.System.{Shape, octet_rows}
 use Rattle.phases.specs.One.{Step, Phase, one, degree, phase_after, phase_one}
 use Rattle.phases.specs.Run.{Run, solved as ends-solved, whole, Answer as Told}
-use Rattle.phases.specs.Choices.{standing, permitted_then}
+use Rattle.phases.specs.Choices.{standing}
+use Rattle.phases.proofs.Choices.{permitted_then}
 use Rattle.phases.specs.Means.{Nulled, Blank}
-use Rattle.phases.specs.Shape.{First, first-shape, Shapes, shapes}
-use Rattle.phases.specs.Answers.{solved_reduces, singular_nulled}
+use Rattle.phases.specs.Shape.{First, Shapes}
+use Rattle.phases.proofs.Shape.{first-shape, shapes}
+use Rattle.phases.proofs.Answers.{solved_reduces, singular_nulled}
 use Rattle.phases.specs.Answers as Ends
+use Rattle.phases.proofs.Answers as Endsp
 use Rattle.answers.specs.declared.Report.{Report}
 use Rattle.answers.specs.declared.Answer.{Answer}
 use Rattle.answers.specs.declared.Answer.TheVariants.{BadCount, BadShape, BadEntry, NoRoom}
@@ -129,7 +134,7 @@ module _ (k m t : ℕ) (bits : List ℕ) (o : Octets) (b : Buffers) where
 
   pub full_exactly : (number_of after.answer ≡ 5) ↔ (Taken k m t bits o b × (length b.list < length (whole (run_in k m bits o))))
   full_exactly =
-      let f = Ends.full_exactly room run in
+      let f = Endsp.full_exactly room run in
       (λ e. let T = taken_at k m t bits o b 5 e (λ h i. omega arith) in (T, f.0 (sym (number_is T) ∙ e)), λ h. number_is h.0 ∙ f.1 h.1)
 
   pub slab_same : number_of after.answer ≢ 0 → after.buffers.slab ≡ b.slab
@@ -279,7 +284,7 @@ module _ (k m t : ℕ) (bits : List ℕ) (o : Octets) (b : Buffers) where
 
       solved_run : ((run_in k m bits o).end ≡ ends-solved said.order) × (said.list ≡ whole (run_in k m bits o))
       unfolding told
-      solved_run = Ends.solved_end room run (sym (number_is T) ∙ e)
+      solved_run = Endsp.solved_end room run (sym (number_is T) ∙ e)
 
       pub listed-whole : ops_of (listed after) ≡ whole (run_in k m bits o)
       listed-whole = says ∙ solved_run.1
@@ -303,7 +308,7 @@ module _ (k m t : ℕ) (bits : List ℕ) (o : Octets) (b : Buffers) where
     pub no_pivot_blank : number_of after.answer ≡ 6 → Blank z matrix (run_in k m bits o).one
     no_pivot_blank e =
         let T = taken_at k m t bits o b 6 e (λ h i. omega arith) in
-        Ends.no_pivot_blank z matrix (fit T hb ho) room false (sym (number_is T) ∙ e)
+        Endsp.no_pivot_blank z matrix (fit T hb ho) room false (sym (number_is T) ∙ e)
 
     pub vector_nulled : number_of after.answer ≡ 7 → Nulled z matrix (λ j. get_or after.buffers.vector j 0)
     unfolding told
@@ -313,4 +318,4 @@ module _ (k m t : ℕ) (bits : List ℕ) (o : Octets) (b : Buffers) where
 
     pub singular_never : number_of after.answer ≡ 7 → (ps : List Op) (order : ℕ → ℕ) → Reduces m (columns_in k) ps matrix order → ⊥
     singular_never e =
-        let T = taken_at k m t bits o b 7 e (λ h i. omega arith) in Ends.singular_never z matrix (fit T hb ho) room false (sym (number_is T) ∙ e)
+        let T = taken_at k m t bits o b 7 e (λ h i. omega arith) in Endsp.singular_never z matrix (fit T hb ho) room false (sym (number_is T) ∙ e)

@@ -16,7 +16,7 @@ use Rattle.phases.specs.One.{Step, Phase, rows_of, pivots_of, phase_one, ops_one
 use Rattle.phases.specs.Two.{Second, acts, working, forward}
 use Rattle.phases.specs.Rest.{by_substitution}
 use Rattle.phases.specs.Run.{Run, End, solved as ends-solved, no_pivot, singular, whole, finish, second, refused, goes_on, defined, ListFull, ending, answer}
-use Rattle.phases.specs.Means.{length-by-column}
+use Rattle.phases.proofs.Means.{length-by-column}
 use Rattle.answers.specs.declared.Counts.{Counts}
 use Rattle.answers.specs.declared.Report.{Report}
 use Rattle.answers.specs.Answers.{report_in}

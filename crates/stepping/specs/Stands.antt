@@ -45,14 +45,17 @@ use Rattle.rule.specs.Permitted.{count, Permitted}
 use Rattle.rule.specs.Rule.{Marks, choose, chosen, after, Cut, arrange, without, next_singles, add_pairs, noted}
 use Rattle.rule.specs.Step.{Arranged}
 use Rattle.rule.specs.Chosen.{Good}
-use Rattle.rule.specs.Reached.{reached_good}
+use Rattle.rule.proofs.Reached.{reached_good}
 use Rattle.phases.specs.System.{Shape, range, first_rows, octet_rows}
 use Rattle.phases.specs.One.{Step, Phase, rows_of, pivots_of, one, degree, begin, taken, taking, step, phase_after}
 use Rattle.phases.specs.ByPlace.{rows_join, pivots_join, length-rows_of, length_pivots_of}
 use Rattle.phases.specs.Occ.{occ, occ-append, occ-range, in_member, once_nodup}
-use Rattle.phases.specs.Fit.{Fit, rows-below, cols-below, cols_once, less?}
+use Rattle.phases.specs.Fit.{Fit, cols-below, cols_once, less?}
+use Rattle.phases.proofs.Fit.{rows-below}
 use Rattle.phases.specs.Fit as R
-use Rattle.phases.specs.Walk.{Walked, permitted, walked, cut_arranged, taken_walked}
+use Rattle.phases.proofs.Fit as Rp
+use Rattle.phases.specs.Walk.{Walked}
+use Rattle.phases.proofs.Walk.{permitted, walked, cut_arranged, taken_walked}
 use Rattle.grid.specs.Grid.{bit, Under, Rows}
 use Rattle.singles.specs.Facts.{front-one}
 use Rattle.singles.specs.Figures.{Sound}
@@ -147,7 +150,7 @@ module _ {z : Shape} {bits : List ℕ} {p : Phase} {c d ones s labels : List ℕ
       z.w below h.walked.reached
     where
       rows_once_here : (y : ℕ) → occ y (first_rows z) ≤ 1
-      rows_once_here y = omega (arith, occ-append y (first_rows z) (octet_rows z), R.rows_once z g.fit.rows_fit y)
+      rows_once_here y = omega (arith, occ-append y (first_rows z) (octet_rows z), Rp.rows_once z g.fit.rows_fit y)
 
       below : (q : ℕ) → In q (range 0 z.w) → q < z.w
       below q m = ⊎_elim (λ l. l) (λ l. absurd (omega (arith, in_member q (range 0 z.w) m, (occ-range 0 z.w q).after (omega arith)))) (less? q z.w)

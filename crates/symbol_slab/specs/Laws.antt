@@ -13,10 +13,13 @@ use mathlib.Core.List.{List}
 use Rattle.std.proofs.Math.ListN.{length}
 use Rattle.oplist.specs.Listed.{ops_of}
 use Rattle.oplist.specs.Check.{undoable}
-use Rattle.algebra.specs.Rows.{undo, within_undo}
-use Rattle.algebra.specs.Flat.{Bytes, acts, length-acts, undo-acts, acts-undo}
+use Rattle.algebra.specs.Rows.{undo}
+use Rattle.algebra.proofs.Rows.{within_undo}
+use Rattle.algebra.specs.Flat.{Bytes, acts}
+use Rattle.algebra.proofs.Flat.{length-acts, undo-acts, acts-undo}
 use Rattle.algebra.specs.Solve.{Reduces}
-use Rattle.algebra.specs.Slab.{Source, through, solved}
+use Rattle.algebra.specs.Slab.{Source, through}
+use Rattle.algebra.proofs.Slab.{solved}
 use Rattle.symbol_slab.specs.declared.Answer.{Answer}
 use Rattle.symbol_slab.specs.declared.Answer.TheVariants.{InPlace, NotUndoable}
 use Rattle.symbol_slab.specs.declared.Check.{Check}

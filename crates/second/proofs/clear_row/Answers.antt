@@ -2,7 +2,7 @@
 use mathlib.Core.Path.{◌∙◌, sym, ap}
 use mathlib.Core.List.{[], ◌∷◌}
 use Prim.Native.Nat.{ℕ}
-use Rattle.phases.specs.Forward.{entry-multiple}
+use Rattle.phases.proofs.Forward.{entry-multiple}
 use Rattle.oplist.specs.declared.Op.{Op}
 use Rattle.phases.specs.One.{entry}
 use Rattle.second.specs.Clear.{Fit, fit_multiple, performed_as, performed_none}

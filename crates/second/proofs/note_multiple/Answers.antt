@@ -3,7 +3,7 @@ use mathlib.Core.Path.{sym, ap, ◌∙◌}
 use mathlib.Core.List.{[], ◌∷◌}
 use Prim.Native.Nat.{ℕ}
 use Rattle.oplist.specs.Multiple.{small_multiple}
-use Rattle.phases.specs.Forward.{entry-multiple}
+use Rattle.phases.proofs.Forward.{entry-multiple}
 use Rattle.oplist.specs.declared.Op.{Op}
 use Rattle.phases.specs.One.{entry}
 use Rattle.second.specs.Backward.{cleared_none, cleared_one, cleared_as}

@@ -2,7 +2,8 @@
 use mathlib.Core.Path.{sym, ◌∙◌}
 use native.Mathlib.Omega.{arith}
 use Rattle.octet.specs.Answers.{divided_zero, divided_value}
-use Rattle.octet.specs.Powers.{quotient-powers, quotient-zero}
+use Rattle.octet.specs.Powers.{quotient-zero}
+use Rattle.octet.proofs.Powers.{quotient-powers}
 use Rattle.octet.proofs.Octet.div.Goals as goal
 
 pub returns-then-b-eq0 : goal.returns-then-b-eq0
