@@ -8,16 +8,16 @@
 --   undo-acts, acts-undo        a list and then its undo, or its undo and then the list, restore every byte
 --   undo-drop   two lists after each other; one operation more of a loop that goes up, or down
 -- Assumes nothing.
-use Rattle.std.specs.Prelude.{◌≡◌, ◌≢◌, Bool, ℕ, zero, suc, ◌+◌, ◌*◌, ◌/◌, ◌%◌, ◌<◌, ◌≤◌, ltb, length, get_or, take, drop}
+use Rattle.std.specs.Prelude.{◌≡◌, ◌≢◌, Bool, ℕ, suc, ◌+◌, ◌*◌, ◌/◌, ◌%◌, ◌<◌, ◌≤◌, ltb, length, get_or, drop}
 use Rattle.std.proofs.Math.Path.{refl, ap, fun_ext}
-use Rattle.std.proofs.Common.{sym, ap₂, ◌∙◌, subst, not-suc-le-zero, le_of_suc-le-suc, mul-le-mul_right, div-add-mod', mod-lt, div-lt_iff_lt-mul, add-one, arith, take-suc, drop-cons, ext_get_or, eqb-true, ltb-true, ltb-false}
+use Rattle.std.proofs.Common.{sym, ap₂, ◌∙◌, subst, div-add-mod', mod-lt, div-lt_iff_lt-mul, add-one, arith, drop-cons, ext_get_or, eqb-true, ltb-true, ltb-false}
 use Rattle.std.proofs.Math.Bool.{true, false}
-use mathlib.Core.List.{List, [], ◌∷◌, ◌++◌, map}
+use mathlib.Core.List.{List, [], ◌∷◌, map}
 use Rattle.std.proofs.Math.Dec.{eqb}
 use Rattle.std.proofs.lemmas.List.{length-map}
 use Rattle.std.proofs.Math.ListN.{get_or-map}
 use Rattle.std.proofs.lemmas.Bool.{eqb-false}
-use Rattle.loops.specs.Part.{part, put, length_part, get_d_part, length-put, get_or-put, get_or-put-before, get_or-put-after}
+use Rattle.loops.specs.Part.{put, length_part, get_d_part, length-put, get_or-put, get_or-put-before, get_or-put-after}
 use Rattle.octet.specs.Octet.{add, mul}
 use Rattle.octet.specs.Field.{Octet, mul-zero}
 use Rattle.oplist.specs.declared.Op.{Op}

@@ -7,9 +7,8 @@ use Rattle.std.proofs.Common.{sym, ap, ◌∙◌, subst, arith, eq-eqb, ne_eqb, 
 use Rattle.std.proofs.lemmas.Bool.{eqb-false}
 use Rattle.octet.specs.Octet.{mul}
 use Rattle.oplist.specs.declared.Op.{Op}
-use Rattle.oplist.specs.Ops.{Each, Within}
-use Rattle.algebra.specs.Sums.{pick, pick_eq, pick_ne, delta, sum, dot, sum_ext, sum_one, sum_swap}
-use Rattle.algebra.specs.Rows.{Good, runs}
+use Rattle.algebra.specs.Sums.{pick, delta, dot, sum_ext}
+use Rattle.algebra.specs.Rows.{runs}
 use Rattle.algebra.specs.Solve.{Unnamed, Makes, Reduces}
 use Rattle.algebra.proofs.Solve.{kernel_back}
 use Rattle.algebra.specs.Order.{Arranged, Perm, dot_perm}

@@ -3,17 +3,15 @@
 --   undo-run, run-undo      a list and its undo, and the other way round, change nothing
 --   good_undo, within_undo  what undoes a good list is good, within the same rows
 -- Assumes nothing.
-use Rattle.std.specs.Prelude.{◌≡◌, refl, ◌≢◌, Bool, true, false, List, [], ◌∷◌, ◌++◌, ℕ, ◌<◌, eqb}
-use Rattle.std.proofs.Common.{sym, ap, ap₂, ◌∙◌, arith, eqb-true}
-use Rattle.std.proofs.Math.Path.{fun_ext}
+use Rattle.std.specs.Prelude.{◌≡◌, refl, ◌≢◌, List, [], ◌∷◌, ℕ}
+use Rattle.std.proofs.Common.{sym, ap, ap₂, ◌∙◌, arith}
 use Rattle.octet.specs.Octet.{add, mul, inverse as inv}
-use Rattle.octet.specs.Field.{add_octet, add-zero, inv_octet, mul_octet, zero-mul, add-undo, mul-zero, Octet, Octets}
+use Rattle.octet.specs.Field.{inv_octet, zero-mul, add-undo, Octets}
 use Rattle.octet.proofs.Field.{inv_mul, mul-undo, mul_redo}
 use Rattle.oplist.specs.declared.Op.{Op}
 use Rattle.oplist.specs.declared.Op.TheVariants.{AddAssign, MulAssign, FMA}
-use Rattle.oplist.specs.Ops.{dest, Each, each_append}
+use Rattle.oplist.specs.Ops.{Each, each_append}
 use Rattle.oplist.specs.Ops.{Within}
-use Rattle.algebra.specs.Sums.{pick, pick_eq, pick_ne, dot, dot-add, dot-mul}
 use Rattle.algebra.specs.Rows.{Good, inverse, put, put_back, put_other, put_same, run, run-append, run_octet, step, step_octet, undo}
 
 pub back : (o : Op) (v : ℕ → ℕ) → Good o → Octets v → step (inverse o) (step o v) ≡ v

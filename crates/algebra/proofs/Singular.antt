@@ -2,14 +2,11 @@
 --   singular      put back in the matrix's own order of columns, the vector is sent to zeros, and is not all zeros
 --   never         a matrix that sends such a vector to zeros is reduced by no list
 -- Assumes nothing.
-use Rattle.std.specs.Prelude.{◌≡◌, refl, ◌≢◌, Bool, true, false, List, ℕ, ◌<◌, ◌≤◌, eqb, ltb}
-use Rattle.std.proofs.Common.{sym, ap, ap₂, ◌∙◌, arith, eqb-true, ltb-true, ltb-false}
-use Rattle.std.proofs.lemmas.Bool.{eqb-false}
-use Rattle.octet.specs.Octet.{add, mul}
-use Rattle.octet.specs.Field.{add_self, add-zero, zero-mul, zero-add, mul-zero, Octets}
+use Rattle.std.specs.Prelude.{◌≡◌, List, ℕ, ◌<◌}
+use Rattle.std.proofs.Common.{◌∙◌, arith}
+use Rattle.octet.specs.Field.{Octets}
 use Rattle.oplist.specs.declared.Op.{Op}
-use Rattle.algebra.specs.Sums.{pick, delta, dot, sum_ext, sum-zero, dot-add}
-use Rattle.algebra.specs.Solve.{Makes, Reduces, dot-unit}
+use Rattle.algebra.specs.Solve.{Makes, Reduces}
 use Rattle.algebra.proofs.Solve.{injective}
 use Rattle.algebra.specs.Order.{Arranged}
 use Rattle.algebra.proofs.Order.{arranged_kernel}

@@ -8,11 +8,10 @@
 use Rattle.std.specs.Prelude.{◌≡◌, refl, ◌≢◌, ◌↔◌, ◌⊎◌, Bool, true, false, List, ℕ, zero, suc, ◌<◌, eqb}
 use Rattle.std.proofs.Common.{sym, ap, ◌∙◌, inl, inr, not-suc-le-zero, arith, eqb-true}
 use Rattle.std.proofs.lemmas.Bool.{eqb-false}
-use Rattle.octet.specs.Octet.{mul}
-use Rattle.octet.specs.Field.{one-mul, zero-mul, Octets}
+use Rattle.octet.specs.Field.{Octets}
 use Rattle.oplist.specs.declared.Op.{Op}
 use Rattle.oplist.specs.Ops.{Each}
-use Rattle.algebra.specs.Sums.{pick_eq, pick_ne, delta, dot, sum_one, sum-zero, dot_octet}
+use Rattle.algebra.specs.Sums.{dot_octet}
 use Rattle.algebra.specs.Rows.{Good, Within, run, runs, times, undo, run-times, run_local, run-zero, run_octet}
 use Rattle.algebra.proofs.Rows.{undo-run, within_undo}
 use Rattle.algebra.specs.Solve.{Makes, Reduces, Unnamed, dot-none, dot-unit}

@@ -9,23 +9,16 @@
 --   act w o l, acts w os l      the slab after the operation o; after the list os
 --   acts-append, acts-take   two lists after each other; one operation more of a loop that goes up, or down
 -- Assumes nothing.
-use Rattle.std.specs.Prelude.{◌≡◌, ◌≢◌, Bool, ℕ, zero, suc, ◌+◌, ◌*◌, ◌/◌, ◌%◌, ◌<◌, ◌≤◌, ltb, length, get_or, take, drop}
-use Rattle.std.proofs.Math.Path.{refl, ap, fun_ext}
-use Rattle.std.proofs.Common.{sym, ap₂, ◌∙◌, subst, not-suc-le-zero, le_of_suc-le-suc, mul-le-mul_right, div-add-mod', mod-lt, div-lt_iff_lt-mul, add-one, arith, take-suc, drop-cons, ext_get_or, eqb-true, ltb-true, ltb-false}
-use Rattle.std.proofs.Math.Bool.{true, false}
+use Rattle.std.specs.Prelude.{◌≡◌, ℕ, zero, suc, ◌+◌, ◌*◌, ◌<◌, ◌≤◌, length, get_or, take}
+use Rattle.std.proofs.Math.Path.{refl, ap}
+use Rattle.std.proofs.Common.{sym, not-suc-le-zero, le_of_suc-le-suc, mul-le-mul_right, add-one, arith, take-suc}
 use mathlib.Core.List.{List, [], ◌∷◌, ◌++◌, map}
-use Rattle.std.proofs.Math.Dec.{eqb}
-use Rattle.std.proofs.lemmas.List.{length-map}
-use Rattle.std.proofs.Math.ListN.{get_or-map}
-use Rattle.std.proofs.lemmas.Bool.{eqb-false}
-use Rattle.loops.specs.Part.{part, put, length_part, get_d_part, length-put, get_or-put, get_or-put-before, get_or-put-after}
+use Rattle.loops.specs.Part.{part, put}
 use Rattle.octet.specs.Octet.{add, mul}
-use Rattle.octet.specs.Field.{Octet, mul-zero}
+use Rattle.octet.specs.Field.{Octet}
 use Rattle.oplist.specs.declared.Op.{Op}
 use Rattle.oplist.specs.declared.Op.TheVariants.{AddAssign, MulAssign, FMA}
-use Rattle.oplist.specs.Ops.{dest, Each}
-use Rattle.algebra.specs.Sums.{pick}
-use Rattle.algebra.specs.Rows.{value, step, Good, Within, run, inverse, undo, run_octet}
+use Rattle.oplist.specs.Ops.{dest}
 
 abbrev pub Bytes : List ℕ → Type 0
 Bytes l = (i : ℕ) → Octet (get_or l i 0)

@@ -1,16 +1,16 @@
 -- Operations that change nothing.
 --   idle       an operation whose source holds zero in a column leaves the column alone
 -- Assumes nothing.
-use Rattle.std.specs.Prelude.{◌≡◌, refl, Bool, true, false, List, ◌++◌, ℕ, eqb}
+use Rattle.std.specs.Prelude.{◌≡◌, refl, Bool, true, false, ℕ, eqb}
 use Rattle.std.proofs.Common.{sym, ap, ◌∙◌, eqb-true}
 use Rattle.std.proofs.Math.Path.{fun_ext}
 use Rattle.octet.specs.Octet.{add, mul}
-use Rattle.octet.specs.Field.{add-zero, mul-zero, Octets}
+use Rattle.octet.specs.Field.{add-zero, mul-zero}
 use Rattle.oplist.specs.declared.Op.{Op}
 use Rattle.oplist.specs.declared.Op.TheVariants.{AddAssign, MulAssign, FMA}
-use Rattle.oplist.specs.Ops.{dest, source, Each}
+use Rattle.oplist.specs.Ops.{dest, source}
 use Rattle.algebra.specs.Sums.{pick}
-use Rattle.algebra.specs.Rows.{value, step, run, undo, Good, run-append}
+use Rattle.algebra.specs.Rows.{value, step, Good}
 
 -- so row work may start at the first column that is not zero
 pub idle : (o : Op) (v : ℕ → ℕ) → Good o → v (source o) ≡ 0 → step o v ≡ v

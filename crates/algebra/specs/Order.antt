@@ -3,15 +3,13 @@
 --   sum_perm, dot_perm       a sum, and a row times a column, with the terms in another order
 --   Arranged                 W is the matrix after a list, its row i the slab row rd i, its column j the matrix's column c j
 -- Assumes nothing.
-use Rattle.std.specs.Prelude.{◌≡◌, refl, ◌≢◌, Bool, true, false, List, ℕ, ◌<◌, ◌≤◌, eqb, ltb}
-use Rattle.std.proofs.Common.{sym, ap, ◌∙◌, subst, arith, eq-eqb, ne_eqb, eqb-true, ltb-true, ltb-false}
-use Rattle.std.proofs.lemmas.Bool.{eqb-false}
+use Rattle.std.specs.Prelude.{◌≡◌, refl, List, ℕ, ◌<◌, eqb}
+use Rattle.std.proofs.Common.{sym, ap, ◌∙◌}
 use Rattle.octet.specs.Octet.{mul}
 use Rattle.oplist.specs.declared.Op.{Op}
 use Rattle.oplist.specs.Ops.{Each, Within}
-use Rattle.algebra.specs.Sums.{pick, pick_eq, pick_ne, delta, sum, dot, sum_ext, sum_one, sum_swap}
+use Rattle.algebra.specs.Sums.{pick, pick_eq, pick_ne, sum, dot, sum_ext, sum_one, sum_swap}
 use Rattle.algebra.specs.Rows.{Good, runs}
-use Rattle.algebra.specs.Solve.{Unnamed, Makes, Reduces}
 
 pub record Perm (n : ℕ) (c d : ℕ → ℕ) : Type 0 where
   pub into : (j : ℕ) → j < n → c j < n

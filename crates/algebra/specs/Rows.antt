@@ -13,14 +13,13 @@
 --   times, run-times        a matrix times a column, through which operations pass
 -- Assumes nothing.
 use Rattle.std.specs.Prelude.{◌≡◌, refl, ◌≢◌, Bool, true, false, List, [], ◌∷◌, ◌++◌, ℕ, ◌<◌, eqb}
-use Rattle.std.proofs.Common.{sym, ap, ap₂, ◌∙◌, arith, eqb-true}
+use Rattle.std.proofs.Common.{sym, ap, ap₂, ◌∙◌, eqb-true}
 use Rattle.std.proofs.Math.Path.{fun_ext}
 use Rattle.octet.specs.Octet.{add, mul, inverse as inv}
-use Rattle.octet.specs.Field.{add_octet, add-zero, inv_octet, mul_octet, zero-mul, add-undo, mul-zero, Octet, Octets}
-use Rattle.octet.proofs.Field.{inv_mul, mul-undo, mul_redo}
+use Rattle.octet.specs.Field.{add_octet, add-zero, mul_octet, mul-zero, Octet, Octets}
 use Rattle.oplist.specs.declared.Op.{Op}
 use Rattle.oplist.specs.declared.Op.TheVariants.{AddAssign, MulAssign, FMA}
-use Rattle.oplist.specs.Ops.{dest, Each, each_append}
+use Rattle.oplist.specs.Ops.{dest, Each}
 pub use Rattle.oplist.specs.Ops.{Within}
 use Rattle.algebra.specs.Sums.{pick, pick_eq, pick_ne, dot, dot-add, dot-mul}
 

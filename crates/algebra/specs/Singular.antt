@@ -4,15 +4,13 @@
 --   Substituted   the vector of a stuck matrix
 --   sent          a stuck matrix sends its vector to zeros
 -- Assumes nothing.
-use Rattle.std.specs.Prelude.{◌≡◌, refl, ◌≢◌, Bool, true, false, List, ℕ, ◌<◌, ◌≤◌, eqb, ltb}
+use Rattle.std.specs.Prelude.{◌≡◌, refl, ◌≢◌, Bool, true, false, ℕ, ◌<◌, ◌≤◌, eqb, ltb}
 use Rattle.std.proofs.Common.{sym, ap, ap₂, ◌∙◌, arith, eqb-true, ltb-true, ltb-false}
 use Rattle.std.proofs.lemmas.Bool.{eqb-false}
 use Rattle.octet.specs.Octet.{add, mul}
 use Rattle.octet.specs.Field.{add_self, add-zero, zero-mul, zero-add, mul-zero, Octets}
-use Rattle.oplist.specs.declared.Op.{Op}
 use Rattle.algebra.specs.Sums.{pick, delta, dot, sum_ext, sum-zero, dot-add}
-use Rattle.algebra.specs.Solve.{Makes, Reduces, dot-unit}
-use Rattle.algebra.specs.Order.{Arranged}
+use Rattle.algebra.specs.Solve.{dot-unit}
 
 -- what stands right of the diagonal in row i
 abbrev pub right : (ℕ → ℕ → ℕ) → ℕ → ℕ → ℕ

@@ -6,17 +6,14 @@
 --   Source             a set of symbols makes the slab: the matrix times the set is the slab
 --   Agrees   rows that the order does not name are zeros exactly if some set makes the slab
 -- Assumes nothing.
-use Rattle.std.specs.Prelude.{◌≡◌, refl, ◌↔◌, List, [], ◌∷◌, length}
-use Rattle.std.proofs.Common.{sym, ap₂, ◌∙◌, not-suc-le-zero, le_of_suc-le-suc, mul-le-mul_right, mod-eq_of_lt, add-zero, arith, lit<}
+use Rattle.std.specs.Prelude.{◌≡◌, refl, List, [], ◌∷◌, length}
+use Rattle.std.proofs.Common.{ap₂, ◌∙◌, not-suc-le-zero, le_of_suc-le-suc, mul-le-mul_right, mod-eq_of_lt, add-zero, arith, lit<}
 use Rattle.std.proofs.Math.Path.{ap}
 use Prim.Native.Nat.{ℕ, zero, suc, ◌+◌, ◌*◌, ◌/◌, ◌%◌, ◌<◌}
 use Rattle.std.proofs.Math.Nat.{mul-add-div_right, div-eq_of_lt, mul-add-mod_self_right}
 use Rattle.std.proofs.Math.ListN.{get_or}
-use Rattle.octet.specs.Octet.{mul}
 use Rattle.octet.specs.Field.{Octets}
 use Rattle.oplist.specs.declared.Op.{Op}
-use Rattle.algebra.specs.Sums.{sum_ext}
-use Rattle.algebra.specs.Rows.{run}
 use Rattle.algebra.specs.Solve.{Unnamed, Makes, Reduces}
 use Rattle.algebra.specs.Flat.{Bytes, view, acts}
 

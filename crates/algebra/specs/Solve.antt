@@ -5,15 +5,14 @@
 --   dot-unit, dot-none a unit row, and a row of zeros, times a column
 --   kernel_forth   a list keeps what is sent to zeros, both ways
 -- Assumes nothing.
-use Rattle.std.specs.Prelude.{◌≡◌, refl, ◌≢◌, ◌↔◌, ◌⊎◌, Bool, true, false, List, ℕ, zero, suc, ◌<◌, eqb}
-use Rattle.std.proofs.Common.{sym, ap, ◌∙◌, inl, inr, not-suc-le-zero, arith, eqb-true}
-use Rattle.std.proofs.lemmas.Bool.{eqb-false}
+use Rattle.std.specs.Prelude.{◌≡◌, refl, ◌≢◌, List, ℕ, ◌<◌}
+use Rattle.std.proofs.Common.{sym, ap, ◌∙◌}
 use Rattle.octet.specs.Octet.{mul}
 use Rattle.octet.specs.Field.{one-mul, zero-mul, Octets}
 use Rattle.oplist.specs.declared.Op.{Op}
 use Rattle.oplist.specs.Ops.{Each}
-use Rattle.algebra.specs.Sums.{pick_eq, pick_ne, delta, dot, sum_one, sum-zero, dot_octet}
-use Rattle.algebra.specs.Rows.{Good, Within, run, runs, times, undo, run-times, run_local, run-zero, run_octet}
+use Rattle.algebra.specs.Sums.{pick_eq, pick_ne, delta, dot, sum_one, sum-zero}
+use Rattle.algebra.specs.Rows.{Good, Within, runs, times, run-times, run_local, run-zero}
 
 abbrev pub Unnamed : ℕ → (ℕ → ℕ) → ℕ → Type 0
 Unnamed n order r = (j : ℕ) → j < n → order j ≢ r

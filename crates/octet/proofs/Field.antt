@@ -2,9 +2,9 @@
 --   inv_mul               the inverse of what is not zero, times it, is one
 --   mul-undo, mul_redo   what follows: a sum of four, the middle two exchanged; an addition and a multiplication undone
 -- Assumes nothing.
-use Rattle.std.specs.Prelude.{◌≡◌, ◌≢◌, ℕ, ◌<◌}
+use Rattle.std.specs.Prelude.{◌≡◌, ◌≢◌, ℕ}
 use Rattle.std.proofs.Common.{sym, ap, ◌∙◌, pos_of_ne-zero}
-use Rattle.octet.specs.Octet.{add, mul, inverse}
+use Rattle.octet.specs.Octet.{mul, inverse}
 use Rattle.octet.specs.Sums as S
 use Rattle.octet.specs.Products as P
 use Rattle.octet.specs.Powers as W

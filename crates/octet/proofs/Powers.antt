@@ -7,10 +7,10 @@
 --   quotient-powers      the quotient by the exponents
 -- Assumes nothing.
 use Rattle.std.specs.Prelude.{◌≡◌, refl, Bool, true, false, List, [], ◌∷◌, ℕ, zero, suc, ◌+◌, ◌-◌, ◌<◌, T, eqb}
-use Rattle.std.proofs.Common.{sym, ap, ap₂, ◌∙◌, subst, zero-add, suc-add, not-suc-le-zero, le_of_suc-le-suc, arith, eqb→eq, lit<}
-use Rattle.octet.specs.Octet.{add, times, product, rest, mul, power, squares, inverse, quotient}
+use Rattle.std.proofs.Common.{sym, ap, ap₂, ◌∙◌, subst, not-suc-le-zero, le_of_suc-le-suc, arith, eqb→eq, lit<}
+use Rattle.octet.specs.Octet.{add, times, product, rest, mul, power, inverse, quotient}
 use Rattle.loops.specs.Table.{all, all-at}
-use Rattle.octet.specs.Products.{mul_assoc, mul_comm, mul-one_l, mul-one-r, mul-zero_l, mul-zero-r, mul_lt}
+use Rattle.octet.specs.Products.{mul_assoc, mul_comm, mul-one_l, mul-one-r, mul-zero-r}
 use Rattle.octet.specs.Powers.{either, inverse-power, power-add, power-one, power-suc, power_lt, power_swap, powers}
 
 among : ℕ → List ℕ → Bool

@@ -6,8 +6,8 @@
 --   one-mul, mul-one, zero-mul, mul-zero   one times an octet is the octet, zero times a number is zero, from either side
 --   exchange, add-undo   what follows: a sum of four, the middle two exchanged; an addition and a multiplication undone
 -- Assumes nothing.
-use Rattle.std.specs.Prelude.{◌≡◌, ◌≢◌, ℕ, ◌<◌}
-use Rattle.std.proofs.Common.{sym, ap, ◌∙◌, pos_of_ne-zero}
+use Rattle.std.specs.Prelude.{◌≡◌, ℕ, ◌<◌}
+use Rattle.std.proofs.Common.{ap, ◌∙◌}
 use Rattle.octet.specs.Octet.{add, mul, inverse}
 use Rattle.octet.specs.Sums as S
 use Rattle.octet.specs.Products as P

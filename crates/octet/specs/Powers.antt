@@ -6,11 +6,10 @@
 --   mul_swap           a product of four; what is not zero is cancelled
 --   quotient_lt, quotient-zero   the quotient is the one octet whose product with the divisor is the dividend
 -- Assumes nothing.
-use Rattle.std.specs.Prelude.{◌≡◌, refl, Bool, true, false, List, [], ◌∷◌, ℕ, zero, suc, ◌+◌, ◌-◌, ◌<◌, T, eqb}
-use Rattle.std.proofs.Common.{sym, ap, ap₂, ◌∙◌, subst, zero-add, suc-add, not-suc-le-zero, le_of_suc-le-suc, arith, eqb→eq, lit<}
-use Rattle.octet.specs.Octet.{add, times, product, rest, mul, power, squares, inverse, quotient}
-use Rattle.loops.specs.Table.{all, all-at}
-use Rattle.octet.specs.Products.{mul_assoc, mul_comm, mul-one_l, mul-one-r, mul-zero_l, mul-zero-r, mul_lt}
+use Rattle.std.specs.Prelude.{◌≡◌, refl, Bool, true, false, List, [], ◌∷◌, ℕ, zero, suc, ◌+◌, ◌-◌, ◌<◌}
+use Rattle.std.proofs.Common.{sym, ap, ◌∙◌, zero-add, suc-add, lit<}
+use Rattle.octet.specs.Octet.{mul, power, squares, inverse, quotient}
+use Rattle.octet.specs.Products.{mul_assoc, mul_comm, mul-one_l, mul-zero_l, mul_lt}
 
 pub power_zero : (a : ℕ) → power a 0 ≡ 1
 unfolding power

@@ -7,10 +7,8 @@
 --   singular_never      hence no list of operations reduces the matrix
 --   no_pivot_blank      NoPivot: columns are left in V, and no eligible row has a nonzero there
 -- Assumes nothing.
-use Rattle.std.specs.Prelude.{◌≡◌, refl, ◌≢◌, ◌↔◌, Bool, true, false, cond, List, [], ◌∷◌, ◌++◌, ℕ, ◌+◌, ◌<◌, ltb, length, get_or}
+use Rattle.std.specs.Prelude.{◌≡◌, refl, ◌≢◌, ◌↔◌, Bool, true, false, cond, List, ℕ, ◌<◌, ltb, length, get_or}
 use Rattle.std.proofs.Common.{ap, arith, ltb-true, lt-ltb}
-use Rattle.loops.specs.Out.{Out}
-use Rattle.loops.specs.Way.{Way, go, halt}
 use Rattle.octet.specs.Field.{Octets}
 use Rattle.oplist.specs.declared.Op.{Op}
 use Rattle.algebra.specs.Rows.{run, undo}
@@ -18,10 +16,8 @@ use Rattle.algebra.proofs.Rows.{undo-run}
 use Rattle.algebra.specs.Solve.{Reduces, Makes, Unnamed}
 use Rattle.algebra.proofs.Solve.{recovered, unique, agrees_iff}
 use Rattle.algebra.proofs.Singular.{never}
-use Rattle.phases.specs.System.{Shape, octet_rows}
-use Rattle.phases.specs.One.{Step, Phase, phase_one, ops_one}
-use Rattle.phases.specs.Two.{Second, acts, working, forward}
-use Rattle.phases.specs.Run.{Run, End, solved, no_pivot, singular, whole, finish, second, refused, goes_on, defined, Answer, ListFull, ending, answer}
+use Rattle.phases.specs.System.{Shape}
+use Rattle.phases.specs.Run.{Run, End, solved, no_pivot, singular, whole, defined, Answer, ListFull, ending, answer}
 use Rattle.phases.specs.Fit.{Fit}
 use Rattle.phases.specs.Means.{columns_two, Says, Nulled, Blank}
 use Rattle.phases.proofs.Means.{means}

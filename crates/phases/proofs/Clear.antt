@@ -4,17 +4,16 @@
 --   clears_idle                   a zero in row x changes nothing
 --   clears-each, clears_good, clears_within   what holds of each of the operations
 -- Assumes nothing.
-use Rattle.std.specs.Prelude.{◌≡◌, refl, ◌≢◌, Bool, true, false, List, [], ◌∷◌, ℕ, zero, suc, ◌-◌, ◌<◌, eqb}
+use Rattle.std.specs.Prelude.{◌≡◌, refl, ◌≢◌, List, [], ◌∷◌, ℕ, zero, suc, ◌-◌, ◌<◌, eqb}
 use Rattle.std.proofs.Common.{sym, ap, ap₂, ◌∙◌, arith}
 use Rattle.std.proofs.Math.Path.{fun_ext}
 use Rattle.octet.specs.Field as L
-use Rattle.octet.specs.Field.{Octet, Octets, mul-zero}
+use Rattle.octet.specs.Field.{Octets, mul-zero}
 use Rattle.octet.specs.Octet.{add, mul}
 use Rattle.oplist.specs.Ops.{Each}
 use Rattle.oplist.specs.declared.Op.{Op}
 use Rattle.oplist.specs.declared.Op.TheVariants.{AddAssign, FMA}
 use Rattle.algebra.specs.Rows.{run, put, put_same, put_other, Good, Within}
-use Rattle.algebra.specs.Sums.{pick}
 use Rattle.phases.specs.Occ.{tick, occ, tick_eq, tick_ne, Same?, yes_same, not_same, same?}
 use Rattle.phases.specs.One.{entry, clears}
 use Rattle.phases.specs.Clear.{bump, bump_octet}

@@ -2,11 +2,10 @@
 --   combined_binary   an octet row, and any other
 --   combined_fit      where every byte is one, and binary entries outside the ignored rows are 0 or 1
 -- Assumes nothing.
-use Rattle.std.specs.Prelude.{◌≡◌, ◌⊎◌, Bool, true, false, cond, ◌&&◌, List, ℕ, ◌+◌, ◌-◌, ◌*◌, ◌<◌, ◌≤◌, leb, ltb, get_or, take, drop}
-use Rattle.std.proofs.Common.{sym, ap, ◌∙◌, subst, inl, inr, arith, lt-ltb, le-ltb, le-leb}
-use Rattle.std.proofs.Math.Path.{fun_ext}
+use Rattle.std.specs.Prelude.{◌≡◌, ◌⊎◌, Bool, true, false, cond, ◌&&◌, List, ℕ, ◌+◌, ◌-◌, ◌<◌, ◌≤◌, leb, ltb, get_or}
+use Rattle.std.proofs.Common.{sym, subst, inl, inr, arith, le-ltb, le-leb}
 use Rattle.std.proofs.lemmas.Bool.{lt-leb}
-use Rattle.loops.specs.Entry.{entry_at, entry-any, entry-take, entry-drop}
+use Rattle.loops.specs.Entry.{entry_at, entry-any}
 use Rattle.octet.specs.Field.{Octet}
 use Rattle.phases.specs.System.{Shape, combined, first_rows, octet_rows}
 use Rattle.phases.specs.Occ.{occ-append, occ-range, Member}

@@ -6,7 +6,6 @@
 use Rattle.std.specs.Prelude.{◌≡◌, refl, ◌≢◌, Bool, true, false, cond, List, [], ◌∷◌, ◌++◌, ℕ, ◌+◌, ltb, length}
 use Rattle.std.proofs.Common.{arith}
 use Rattle.oplist.specs.declared.Op.{Op}
-use Rattle.oplist.specs.declared.Op.TheVariants.{AddAssign, MulAssign, FMA}
 use Rattle.oplist.specs.Count.{adds, muls, adds-append, muls-append}
 use Rattle.phases.specs.Run.{Run, End, solved, no_pivot, singular, whole, counts, no_counts, ListFull, ending, answer}
 use Rattle.phases.specs.Counts.{added, adds_are, muls_are, multiplied}

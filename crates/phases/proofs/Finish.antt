@@ -2,23 +2,22 @@
 --   four_idle, four-other, four_hit, four-each   phase four
 --   one_from                 phase one's operations add chosen rows
 -- Assumes nothing.
-use Rattle.std.specs.Prelude.{◌≡◌, refl, ◌≢◌, Bool, true, false, ◌||◌, List, [], ◌∷◌, ℕ, zero, suc, ◌-◌, eqb}
+use Rattle.std.specs.Prelude.{◌≡◌, refl, ◌≢◌, List, [], ◌∷◌, ℕ, zero, suc, ◌-◌, eqb}
 use Rattle.std.proofs.Common.{sym, ap, ap₂, ◌∙◌, subst, not-suc-le-zero, arith}
 use Rattle.std.proofs.Math.Path.{fun_ext}
 use Rattle.octet.specs.Field as L
 use Rattle.octet.specs.Field.{Octets, mul-zero}
 use Rattle.octet.specs.Octet.{add, mul}
-use Rattle.oplist.specs.Ops.{dest, Each, each_append, source}
+use Rattle.oplist.specs.Ops.{Each, each_append}
 use Rattle.oplist.specs.declared.Op.{Op}
-use Rattle.oplist.specs.declared.Op.TheVariants.{AddAssign, MulAssign, FMA}
-use Rattle.algebra.specs.Loops.{idle}
-use Rattle.algebra.specs.Rows.{value, step, inverse, undo, run, put_same, put_other, run_octet, run-append, Good}
-use Rattle.algebra.specs.Sums.{pick, pick_eq, pick_ne, delta}
+use Rattle.oplist.specs.declared.Op.TheVariants.{AddAssign, FMA}
+use Rattle.algebra.specs.Rows.{run, put_same, put_other, run_octet, run-append}
+use Rattle.algebra.specs.Sums.{pick_eq, pick_ne}
 use Rattle.phases.specs.Clear.{bump, bump_octet}
 use Rattle.phases.proofs.Clear.{run-entry, clears-each}
 use Rattle.phases.specs.Occ.{tick, occ, tick_eq, tick_ne, Same?, yes_same, not_same, same?, Once, Member}
 use Rattle.phases.specs.One.{Step, entry, clears, rows_of, pivots_of, ops_one}
-use Rattle.phases.specs.Rest.{has, kept, keep_op, gather, phase_four}
+use Rattle.phases.specs.Rest.{gather, phase_four}
 use Rattle.phases.specs.Sweep.{Every, Entries}
 use Rattle.phases.specs.Finish.{Column, From, Zeros}
 

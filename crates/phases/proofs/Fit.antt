@@ -1,9 +1,8 @@
 -- A system that the definition takes, and its rows and columns at first.
 --   rows-occ, rows_once, rows-below   they are 0 .. m - 1, once each
 -- Assumes nothing.
-use Rattle.std.specs.Prelude.{◌≡◌, refl, ◌⊎◌, Bool, true, false, List, ◌++◌, ℕ, ◌+◌, ◌-◌, ◌<◌, ◌≤◌, ltb}
-use Rattle.std.proofs.Common.{ap, ◌∙◌, inl, inr, arith, ltb-true, ltb-false}
-use Rattle.octet.specs.Field.{Octet}
+use Rattle.std.specs.Prelude.{◌≡◌, ◌⊎◌, List, ◌++◌, ℕ, ◌+◌, ◌-◌, ◌<◌, ◌≤◌}
+use Rattle.std.proofs.Common.{ap, ◌∙◌, inl, inr, arith}
 use Rattle.phases.specs.System.{Shape, range, first_rows, octet_rows}
 use Rattle.phases.specs.Occ.{occ, occ-append, occ-range, Member, Once}
 use Rattle.phases.specs.Fit.{all-rows, less?}

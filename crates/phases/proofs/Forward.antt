@@ -3,8 +3,8 @@
 --   given_stage     a column that gets the first row with a nonzero leads to the next stage
 --   forward-ended   the definition ends so
 -- Assumes nothing.
-use Rattle.std.specs.Prelude.{◌≡◌, refl, ◌≢◌, Bool, true, false, not, List, [], ◌∷◌, ◌++◌, eqb, get_or, take, drop}
-use Rattle.std.proofs.Common.{sym, ap, ap₂, ◌∙◌, append_assoc, append-nil, zero-add, take-suc, eq-eqb, eqb-true}
+use Rattle.std.specs.Prelude.{◌≡◌, refl, ◌≢◌, Bool, true, false, not, List, [], ◌∷◌, ◌++◌, eqb, get_or, drop}
+use Rattle.std.proofs.Common.{sym, ap, ap₂, ◌∙◌, append-nil, zero-add, take-suc, eq-eqb, eqb-true}
 use Rattle.std.proofs.Math.Path.{subst}
 use Rattle.std.proofs.Math.Option.{Option, some, none}
 use Prim.Native.Nat.{ℕ, zero, suc, ◌+◌, ◌-◌, ◌<◌, ◌≤◌}
@@ -22,10 +22,10 @@ use Rattle.rule.specs.Rule.{without}
 use Rattle.rule.specs.Sets.{in_filter, filter_in, head_in, head-some, tf}
 use Rattle.phases.specs.One.{Step, entry, clears, pivots_of}
 use Rattle.phases.specs.Two.{at, acts, scaled, column_ops, Second, given, giving, turn, forward}
-use Rattle.phases.specs.Occ.{occ, tick_eq, occ-without, Member, Once, in_member, member_in}
+use Rattle.phases.specs.Occ.{occ, occ-without, Member, Once, in_member, member_in}
 use Rattle.phases.proofs.Clear.{clears_within}
 use Rattle.phases.specs.Sweep.{last-rows, last-rows-snoc}
-use Rattle.phases.specs.Gauss.{Works, Pivot, ops_at, ops_two, works_kept}
+use Rattle.phases.specs.Gauss.{Pivot, ops_at, ops_two, works_kept}
 use Rattle.phases.proofs.Gauss.{scaled_within}
 use Rattle.phases.specs.Matrix.{runs_append, Full, Shows, acts-full, shows_acts}
 use Rattle.phases.specs.Forward.{Ended, Stage, clears_alike, ops_two-snoc, works_snoc}

@@ -20,8 +20,8 @@ use Rattle.algebra.specs.Sums.{pick_eq, pick_ne, delta}
 use Rattle.phases.proofs.Clear.{clears_miss, clears_hit, clears_idle, clears_good, clears_within}
 use Rattle.phases.specs.Occ.{tick, occ, tick_eq, tick_ne, occ-append, Same?, yes_same, not_same, same?, Once}
 use Rattle.phases.specs.One.{Step, clears, rows_of}
-use Rattle.phases.specs.Sweep.{Every, every_map, every-both, Entries, runs-entries, last-rows}
-use Rattle.phases.specs.Two.{scaled, column_ops}
+use Rattle.phases.specs.Sweep.{Every, every_map, every-both, Entries, runs-entries}
+use Rattle.phases.specs.Two.{scaled}
 use Rattle.phases.specs.Gauss.{Falls, Pivot, Stairs, Works, above, ops_at, ops_two}
 
 -- scaling

@@ -3,24 +3,24 @@
 --   chosen_apart      each chosen row has zeros at the columns of later ones
 --   singular                 what its vector is
 -- Assumes nothing.
-use Rattle.std.specs.Prelude.{◌≡◌, refl, Bool, true, false, cond, List, [], ◌∷◌, ◌++◌, ℕ, ◌+◌, ◌-◌, ◌<◌, ◌≤◌, eqb}
+use Rattle.std.specs.Prelude.{◌≡◌, refl, Bool, true, false, cond, List, [], ◌∷◌, ◌++◌, ℕ, ◌+◌, ◌-◌, ◌<◌, eqb}
 use Rattle.std.proofs.Common.{sym, ap, ap₂, ◌∙◌, subst, inl, inr, not-suc-le-zero, arith, lit<, eq-eqb, ne_eqb}
 use Rattle.std.proofs.Math.Path.{fun_ext}
 use Rattle.octet.specs.Field as L
-use Rattle.octet.specs.Field.{Octet, Octets, zero-add, mul-zero}
+use Rattle.octet.specs.Field.{Octet, Octets, zero-add}
 use Rattle.octet.specs.Octet.{add, mul}
 use Rattle.oplist.specs.Ops.{Each, each_append}
 use Rattle.oplist.specs.declared.Op.{Op}
 use Rattle.algebra.specs.Rows.{runs, column, run-append, Good, Within}
 use Rattle.algebra.specs.Solve.{Makes}
 use Rattle.algebra.proofs.Solve.{kernel_back}
-use Rattle.algebra.specs.Sums.{pick, pick_eq, pick_ne, delta, dot, sum_ext, sum_one, sum-zero, sum-add}
-use Rattle.phases.specs.Gauss.{Works, works_kept, Stairs, falls, Falls, ops_two}
+use Rattle.algebra.specs.Sums.{pick_eq, pick_ne, delta}
+use Rattle.phases.specs.Gauss.{works_kept, Stairs, falls, Falls, ops_two}
 use Rattle.phases.proofs.Gauss.{works_idle, works_good, works_within, stairs}
 use Rattle.phases.specs.Occ.{tick, occ, tick_eq, tick_ne, Same?, yes_same, not_same, same?, Once, Member}
 use Rattle.phases.specs.One.{Step, rows_of, pivots_of, ops_one}
 use Rattle.phases.specs.Solved.{Among, every-at, every_of, row_among, rows_append, left_under}
-use Rattle.phases.specs.Sweep.{Every, Legal, Entries, runs-entries, last-rows, rows-kept, Unit_at}
+use Rattle.phases.specs.Sweep.{Every, Entries, runs-entries, last-rows, rows-kept, Unit_at}
 use Rattle.phases.proofs.Sweep.{shape, ops_good, ops_within}
 use Rattle.phases.specs.Kernel.{Apart, Halt, Small, Value, chain, cols_of, dot-weigh, value_of, vs, weighs}
 

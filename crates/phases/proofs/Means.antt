@@ -22,7 +22,7 @@ use Rattle.phases.specs.System.{Shape, range, first_rows, octet_rows}
 use Rattle.phases.specs.One.{Step, Phase, rows_of, pivots_of, phase_one, ops_one}
 use Rattle.phases.specs.Two.{at, acts, working, Second, forward, backward}
 use Rattle.phases.specs.Rest.{kept, phase_four, beside, by-column, by_substitution}
-use Rattle.phases.specs.Run.{Run, End, solved, no_pivot, singular, whole, finish, second, refused, goes_on, defined}
+use Rattle.phases.specs.Run.{singular, whole, finish, second, refused, goes_on, defined}
 use Rattle.phases.specs.Occ.{tick, occ, tick_eq, occ-append, Member, Once}
 use Rattle.phases.specs.Fit.{Fit, all-rows, cols-occ, cols_once, cols-below}
 use Rattle.phases.proofs.Fit.{rows-occ, rows_once, rows-below}

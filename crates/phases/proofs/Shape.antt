@@ -20,7 +20,7 @@ use Rattle.phases.specs.Run.{Run, whole, solved, finish, second, refused, goes_o
 use Rattle.phases.specs.Occ.{occ, Member}
 use Rattle.phases.specs.Fit.{Fit, all-rows}
 use Rattle.phases.proofs.Fit.{rows-occ, rows_once}
-use Rattle.phases.specs.Sweep.{Every, every_map, Triangle, last-rows, last-cols, rows-kept}
+use Rattle.phases.specs.Sweep.{every_map, last-rows, last-cols, rows-kept}
 use Rattle.phases.proofs.Sweep.{triangle, shape, shape-clear, kept-v}
 use Rattle.phases.specs.Gauss.{ops_two, above}
 use Rattle.phases.specs.Solved.{Among, every-at, every_of, found, Course, list_two, list_kept, the_list}

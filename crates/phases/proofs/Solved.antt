@@ -3,8 +3,8 @@
 --   undone, kept_off, four_leaves, cleared, final   and after phases three, four and five
 --   reduces                  the list reduces the matrix
 -- Assumes nothing.
-use Rattle.std.specs.Prelude.{◌≡◌, refl, ◌≢◌, ◌⊎◌, Bool, cond, List, [], ◌∷◌, ◌++◌, ℕ, ◌+◌, ◌-◌, ◌<◌, ◌≤◌, eqb}
-use Rattle.std.proofs.Common.{sym, ap, ap₂, ◌∙◌, subst, inl, inr, not-suc-le-zero, arith, eq-eqb, ne_eqb}
+use Rattle.std.specs.Prelude.{◌≡◌, refl, ◌≢◌, ◌⊎◌, List, [], ◌++◌, ℕ, ◌+◌, ◌-◌, ◌<◌, ◌≤◌}
+use Rattle.std.proofs.Common.{sym, ap, ap₂, ◌∙◌, subst, inl, inr, arith}
 use Rattle.octet.specs.Field as L
 use Rattle.octet.specs.Field.{Octets}
 use Rattle.octet.specs.Octet.{add}
@@ -17,12 +17,12 @@ use Rattle.algebra.specs.Solve.{Reduces}
 use Rattle.algebra.specs.Sums.{pick_eq, pick_ne, delta}
 use Rattle.phases.specs.Finish.{On, From, run_alike, run_off, run_none, on-undo, kept-each, kept_on, kept_run, Column}
 use Rattle.phases.proofs.Finish.{one_from, four_idle, four-other, four_hit, four-each}
-use Rattle.phases.specs.Gauss.{Works, works_kept, Stairs, falls, ops_two, ops_at, above}
+use Rattle.phases.specs.Gauss.{works_kept, Stairs, falls, ops_two, above}
 use Rattle.phases.proofs.Gauss.{works_other, works_idle, works_good, works_within, stairs, units, back_idle, back-other, back_good, back_within}
-use Rattle.phases.specs.Occ.{tick, occ, tick_eq, tick_ne, Same?, yes_same, not_same, same?, Once, Member}
+use Rattle.phases.specs.Occ.{occ, Same?, yes_same, not_same, same?, Once, Member}
 use Rattle.phases.specs.One.{Step, rows_of, pivots_of, ops_one}
-use Rattle.phases.specs.Rest.{kept, phase_four, beside}
-use Rattle.phases.specs.Sweep.{Every, Legal, Entries, runs-entries, last-rows, rows-kept, Unit_at}
+use Rattle.phases.specs.Rest.{phase_four}
+use Rattle.phases.specs.Sweep.{Entries, runs-entries, last-rows, rows-kept, Unit_at}
 use Rattle.phases.proofs.Sweep.{shape, ops_good, ops_within}
 use Rattle.phases.specs.Solved.{Among, Course, among_split, every-at, every_of, found, left_under, list_kept, named, one-column, pivot_among, pivots_append, row_among, row_of, rows_append, the_list}
 

@@ -6,10 +6,10 @@
 --   shape, shape-clear    each step's column becomes the unit of its row; the chosen rows are zeros in what is left of V
 --   triangle             the given matrix is a lower triangle at the steps' rows and columns
 -- Assumes nothing.
-use Rattle.std.specs.Prelude.{◌≡◌, refl, ◌≢◌, List, [], ◌∷◌, ◌++◌, ℕ, ◌+◌, ◌-◌, ◌<◌, ◌≤◌, eqb}
+use Rattle.std.specs.Prelude.{◌≡◌, refl, ◌≢◌, List, [], ◌∷◌, ℕ, ◌+◌, ◌-◌, ◌<◌, ◌≤◌, eqb}
 use Rattle.std.proofs.Common.{sym, ap, ap₂, ◌∙◌, arith}
 use Rattle.octet.specs.Field as L
-use Rattle.octet.specs.Field.{Octet, Octets, mul-zero}
+use Rattle.octet.specs.Field.{Octets, mul-zero}
 use Rattle.octet.specs.Octet.{add, mul}
 use Rattle.oplist.specs.Ops.{Each, each_append}
 use Rattle.oplist.specs.declared.Op.{Op}
@@ -17,7 +17,7 @@ use Rattle.algebra.specs.Rows.{run, runs, column, run_octet, run-append, Good, W
 use Rattle.algebra.specs.Sums.{pick_eq, pick_ne, delta}
 use Rattle.phases.proofs.Clear.{clears_miss, clears_hit, clears_idle, clears_good, clears_within}
 use Rattle.phases.specs.Occ.{tick, occ, tick_eq, tick_ne, Same?, yes_same, not_same, same?, Once}
-use Rattle.phases.specs.One.{Step, clears, ops_one, rows_of, pivots_of}
+use Rattle.phases.specs.One.{Step, clears, ops_one, pivots_of}
 use Rattle.phases.specs.Sweep.{Agrees, Entries, Every, Fair, Legal, Triangle, Unit_at, every-both, every_map, last-cols, last-rows, runs-entries}
 
 module _ (A : ℕ → ℕ → ℕ) where

@@ -2,16 +2,16 @@
 --   values-is         phase two's columns, by substitution from the column without pivot
 --   substitution_is   and the chosen rows' columns
 -- Assumes nothing.
-use Rattle.std.specs.Prelude.{◌≡◌, refl, cond, List, [], ◌∷◌, ◌++◌, map, ℕ, suc, ◌+◌, ◌<◌, ◌≤◌, eqb, length, get_or, drop}
+use Rattle.std.specs.Prelude.{◌≡◌, refl, List, [], ◌∷◌, ◌++◌, map, ℕ, suc, ◌+◌, ◌<◌, ◌≤◌, length, get_or, drop}
 use Rattle.std.proofs.Common.{sym, ap, ap₂, ◌∙◌, not-suc-le-zero, arith, length-drop, get_or-drop}
 use Rattle.octet.specs.Octet.{add, mul}
 use Rattle.octet.specs.Field.{add-zero, zero-mul}
-use Rattle.phases.specs.One.{Step, rows_of, pivots_of}
+use Rattle.phases.specs.One.{Step, rows_of}
 use Rattle.phases.specs.Two.{at}
-use Rattle.phases.specs.Rest.{beside, weigh, values, by_substitution}
+use Rattle.phases.specs.Rest.{weigh, values, by_substitution}
 use Rattle.phases.specs.Occ.{tick_eq, Member}
 use Rattle.phases.specs.Sweep.{Every}
-use Rattle.phases.specs.Kernel.{Value, weighs, chain, value_of, cols_of, Apart}
+use Rattle.phases.specs.Kernel.{Value, weighs, chain, cols_of, Apart}
 use Rattle.phases.specs.Vector.{vals_of}
 
 -- a row's entries at the vector's columns

@@ -16,17 +16,17 @@ use Rattle.std.proofs.Math.Option.{Option, some, none}
 use Rattle.loops.specs.Loop.{for_none, for_next}
 use Rattle.rule.specs.Lists.{In, keep, filter}
 use Rattle.rule.specs.Permitted.{count, Permitted}
-use Rattle.rule.specs.Rule.{State, start, chosen, after, Cut, arrange, without}
+use Rattle.rule.specs.Rule.{chosen, after, Cut, arrange, without}
 use Rattle.rule.specs.Chosen.{Good}
 use Rattle.rule.specs.Step.{Arranged}
 use Rattle.rule.proofs.Arrange.{arranged}
 use Rattle.rule.specs.Sets.{filter_in}
-use Rattle.rule.specs.Reached.{Reached, begun, stepped}
+use Rattle.rule.specs.Reached.{begun, stepped}
 use Rattle.rule.proofs.Reached.{reached_good, every_choice, no_pivot}
 use Rattle.phases.specs.System.{Shape, range, first_rows, octet_rows}
 use Rattle.phases.specs.One.{Step, Phase, pivots_of, one, degree, begin, taken, taking, step, phase_after, phase_one}
 use Rattle.phases.specs.Occ.{tick, occ, occ-append, occ-range, occ-without, Member, Once, in_member, member_in, once_nodup, Same?, yes_same, not_same, same?}
-use Rattle.phases.specs.Sweep.{Fair, Legal, last-rows, last-cols, legal_snoc, last-rows-snoc, last-cols-snoc}
+use Rattle.phases.specs.Sweep.{Fair, last-cols, legal_snoc, last-rows-snoc, last-cols-snoc}
 use Rattle.phases.specs.Solved.{pivots_append}
 use Rattle.phases.specs.Matrix.{length-range}
 use Rattle.phases.specs.Fit.{Fit, all-rows, cols_once, cols-below, less?}

@@ -3,23 +3,15 @@
 --   wide_decides        a wide run is never without a pivot
 --   blind               the answer has nothing of the symbols
 -- Assumes nothing.
-use Rattle.std.specs.Prelude.{◌≡◌, refl, ◌≢◌, ◌↔◌, Bool, true, false, cond, List, [], ◌∷◌, ◌++◌, ℕ, ◌+◌, ◌<◌, ltb, length, get_or}
-use Rattle.std.proofs.Common.{ap, arith, ltb-true, lt-ltb}
+use Rattle.std.specs.Prelude.{◌≡◌, refl, Bool, true, cond, List, [], ◌∷◌, ◌++◌, ℕ, ◌+◌}
 use Rattle.loops.specs.Out.{Out}
 use Rattle.loops.specs.Way.{Way, go, halt}
-use Rattle.octet.specs.Field.{Octets}
 use Rattle.oplist.specs.declared.Op.{Op}
-use Rattle.algebra.specs.Rows.{run, undo}
-use Rattle.algebra.proofs.Rows.{undo-run}
-use Rattle.algebra.specs.Solve.{Reduces, Makes, Unnamed}
-use Rattle.algebra.proofs.Solve.{recovered, unique, agrees_iff}
-use Rattle.algebra.proofs.Singular.{never}
+use Rattle.algebra.specs.Rows.{run}
 use Rattle.phases.specs.System.{Shape, octet_rows}
 use Rattle.phases.specs.One.{Step, Phase, phase_one, ops_one}
 use Rattle.phases.specs.Two.{Second, acts, working, forward}
-use Rattle.phases.specs.Run.{Run, End, solved, no_pivot, singular, whole, finish, second, refused, goes_on, defined, Answer, ListFull, ending, answer}
-use Rattle.phases.specs.Fit.{Fit}
-use Rattle.phases.specs.Means.{columns_two, Says, Nulled, Blank}
+use Rattle.phases.specs.Run.{End, solved, no_pivot, singular, finish, second, refused, goes_on, defined, Answer, answer}
 
 -- a wide run ends with an order or with a vector
 abbrev pub Decided : End → Type 0

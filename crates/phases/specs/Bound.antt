@@ -5,28 +5,8 @@
 --   longest           the most for a shape
 --   largest           the longest list of 256 rows and 256 columns, 233 of them in V at first
 -- Assumes nothing.
-use Rattle.std.specs.Prelude.{◌≡◌, refl, ◌≢◌, Bool, true, false, cond, List, [], ◌∷◌, ◌++◌, ℕ, zero, suc, ◌+◌, ◌-◌, ◌*◌, ◌<◌, ◌≤◌, eqb, length, get_or, take}
-use Rattle.std.proofs.Common.{sym, ap, ◌∙◌, subst, not-suc-le-zero, suc-mul, mul-suc, mul-le-mul_left, arith, length-append, length-take-le}
-use Rattle.loops.specs.Out.{Out}
-use Rattle.loops.specs.Way.{Way, go, halt}
-use Rattle.oplist.specs.declared.Op.{Op}
-use Rattle.algebra.specs.Rows.{runs}
-use Rattle.rule.specs.Lists.{In, keep, filter}
-use Rattle.rule.specs.Sets.{sub_length, in_filter, nodup_filter}
-use Rattle.phases.specs.System.{Shape, range, octet_rows}
-use Rattle.phases.specs.One.{Step, Phase, rows_of, pivots_of, entry, clears, ops_one, phase_one}
-use Rattle.phases.specs.Two.{at, scaled, backward, Second, acts, working, forward}
-use Rattle.phases.specs.Rest.{has, kept, last-first, gather, phase_four}
-use Rattle.phases.specs.Run.{whole, finish, second, refused, goes_on, defined}
-use Rattle.phases.specs.Occ.{tick, occ, tick_eq, tick_ne, occ-append, occ-range, Member, Once, in_member, member_in, once_nodup}
-use Rattle.phases.specs.Fit.{Fit, all-rows, cols_once, cols-below}
-use Rattle.phases.specs.Sweep.{Fair, Legal, last-rows, rows-kept}
-use Rattle.phases.specs.Gauss.{Works, ops_two, ops_at}
-use Rattle.phases.specs.Finish.{has-true}
-use Rattle.phases.specs.ByPlace.{length-rows_of, length_pivots_of}
-use Rattle.phases.specs.Walk.{Walked}
-use Rattle.phases.specs.Matrix.{length-range}
-use Rattle.phases.specs.Forward.{Stage, Ended}
+use Rattle.std.specs.Prelude.{◌≡◌, refl, ℕ, zero, suc, ◌+◌, ◌-◌, ◌*◌}
+use Rattle.phases.specs.System.{Shape}
 
 abbrev pub ramp : ℕ → ℕ → ℕ
 ramp a zero = 0

@@ -3,19 +3,15 @@
 --   backward-is       clearing above, column by column
 --   beside_more       columns beyond the values have none
 -- Assumes nothing.
-use Rattle.std.specs.Prelude.{◌≡◌, refl, Bool, true, false, cond, List, [], ◌∷◌, ◌++◌, ℕ, zero, suc, ◌+◌, ◌<◌, ◌≤◌, eqb, length, get_or, take}
-use Rattle.std.proofs.Common.{sym, ap, ap₂, ◌∙◌, subst, append_assoc, append-nil, not-suc-le-zero, arith, take-suc}
+use Rattle.std.specs.Prelude.{◌≡◌, refl, cond, List, [], ◌∷◌, ◌++◌, ℕ, zero, suc, ◌+◌, ◌<◌, ◌≤◌, eqb, length, get_or, take}
+use Rattle.std.proofs.Common.{sym, ap, ap₂, ◌∙◌, append_assoc, append-nil, not-suc-le-zero, arith, take-suc}
 use Rattle.std.proofs.Math.Seq.{take-length}
 use Rattle.oplist.specs.declared.Op.{Op}
-use Rattle.oplist.specs.declared.Op.TheVariants.{AddAssign, MulAssign, FMA}
-use Rattle.oplist.specs.Ops.{dest, Each}
-use Rattle.algebra.specs.Rows.{undo}
-use Rattle.phases.specs.One.{Step, entry, clears, ops_one, rows_of, pivots_of}
+use Rattle.phases.specs.One.{Step, clears, rows_of, pivots_of}
 use Rattle.phases.specs.Two.{at, backward}
-use Rattle.phases.specs.Rest.{has, keep_op, kept, last-first, beside}
-use Rattle.phases.specs.Occ.{occ, tick_eq, Member}
+use Rattle.phases.specs.Rest.{beside}
+use Rattle.phases.specs.Occ.{occ, Member}
 use Rattle.phases.specs.Gauss.{above}
-use Rattle.phases.specs.Finish.{has-true}
 use Rattle.phases.specs.Forward.{clears_alike}
 
 abbrev no_step : Step

@@ -2,27 +2,16 @@
 --   standing         the matrix after k steps
 --   refused_exactly  a plain run ends with no pivot exactly when columns are left in V
 -- Assumes nothing.
-use Rattle.std.specs.Prelude.{◌≡◌, refl, ◌≢◌, ◌↔◌, true, false, cond, List, [], ◌∷◌, ◌++◌, ℕ, ◌+◌, eqb}
-use Rattle.std.proofs.Common.{sym, ap, ◌∙◌, subst, arith, eqb-true}
-use Rattle.std.proofs.Math.Option.{Option, some, none}
+use Rattle.std.specs.Prelude.{◌≡◌, refl, ◌≢◌, ◌↔◌, false, cond, List, [], ◌∷◌, ◌++◌, ℕ, ◌+◌}
+use Rattle.std.proofs.Common.{arith}
 use Rattle.loops.specs.Out.{Out}
 use Rattle.loops.specs.Way.{Way, go, halt}
 use Rattle.oplist.specs.declared.Op.{Op}
 use Rattle.algebra.specs.Rows.{runs}
-use Rattle.rule.specs.Lists.{In}
-use Rattle.rule.specs.Step.{count-zero}
-use Rattle.rule.specs.Permitted.{Permitted}
-use Rattle.rule.specs.Rule.{chosen}
-use Rattle.rule.specs.Alike.{Alike, permitted_alike}
-use Rattle.phases.specs.System.{Shape, range, first_rows, octet_rows}
-use Rattle.phases.specs.One.{Step, Phase, rows_of, one, degree, phase_after, phase_one, ops_one, clears}
+use Rattle.phases.specs.System.{Shape, octet_rows}
+use Rattle.phases.specs.One.{Step, Phase, phase_after, phase_one, ops_one}
 use Rattle.phases.specs.Two.{Second, acts, working, forward}
 use Rattle.phases.specs.Run.{no_pivot, finish, second, refused, goes_on, defined}
-use Rattle.phases.specs.Occ.{occ, occ-append, Member, in_member}
-use Rattle.phases.specs.Fit.{Fit, all-rows}
-use Rattle.phases.specs.Sweep.{rows-kept}
-use Rattle.phases.specs.Forward.{clears_alike}
-use Rattle.phases.specs.Walk.{Walked}
 
 -- the matrix after k steps: phase one's list so far, applied
 abbrev pub standing : Shape → (ℕ → ℕ → ℕ) → ℕ → ℕ → ℕ → ℕ

@@ -1,19 +1,12 @@
 -- What clearing does to a column: row x is added to each of the rows ys, as often as s says.
 --   bump, bump_octet   one addition of a multiple
 -- Assumes nothing.
-use Rattle.std.specs.Prelude.{◌≡◌, refl, ◌≢◌, Bool, true, false, List, [], ◌∷◌, ℕ, zero, suc, ◌-◌, ◌<◌, eqb}
-use Rattle.std.proofs.Common.{sym, ap, ap₂, ◌∙◌, arith}
-use Rattle.std.proofs.Math.Path.{fun_ext}
+use Rattle.std.specs.Prelude.{Bool, true, false, ℕ, eqb}
 use Rattle.octet.specs.Field as L
-use Rattle.octet.specs.Field.{Octet, Octets, mul-zero}
+use Rattle.octet.specs.Field.{Octet, Octets}
 use Rattle.octet.specs.Octet.{add, mul}
-use Rattle.oplist.specs.Ops.{Each}
-use Rattle.oplist.specs.declared.Op.{Op}
-use Rattle.oplist.specs.declared.Op.TheVariants.{AddAssign, FMA}
-use Rattle.algebra.specs.Rows.{run, put, put_same, put_other, Good, Within}
+use Rattle.algebra.specs.Rows.{put}
 use Rattle.algebra.specs.Sums.{pick}
-use Rattle.phases.specs.Occ.{tick, occ, tick_eq, tick_ne, Same?, yes_same, not_same, same?}
-use Rattle.phases.specs.One.{entry, clears}
 
 -- the column after c times row x was added to row y
 abbrev pub bump : ℕ → ℕ → ℕ → (ℕ → ℕ) → ℕ → ℕ

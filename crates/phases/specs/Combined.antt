@@ -2,15 +2,13 @@
 --   combined_ignores   what the binary matrix holds in the octet rows is ignored: two that are equal before and after these rows give one combined matrix
 --   combined_octet   an octet row, and any other
 -- Assumes nothing.
-use Rattle.std.specs.Prelude.{◌≡◌, ◌⊎◌, Bool, true, false, cond, ◌&&◌, List, ℕ, ◌+◌, ◌-◌, ◌*◌, ◌<◌, ◌≤◌, leb, ltb, get_or, take, drop}
-use Rattle.std.proofs.Common.{sym, ap, ◌∙◌, subst, inl, inr, arith, lt-ltb, le-ltb, le-leb}
+use Rattle.std.specs.Prelude.{◌≡◌, ◌⊎◌, List, ℕ, ◌+◌, ◌-◌, ◌*◌, ◌<◌, ◌≤◌, take, drop}
+use Rattle.std.proofs.Common.{sym, ap, ◌∙◌, inl, inr, lt-ltb, le-ltb, le-leb}
 use Rattle.std.proofs.Math.Path.{fun_ext}
 use Rattle.std.proofs.lemmas.Bool.{lt-leb}
-use Rattle.loops.specs.Entry.{entry_at, entry-any, entry-take, entry-drop}
-use Rattle.octet.specs.Field.{Octet}
-use Rattle.phases.specs.System.{Shape, combined, first_rows, octet_rows}
-use Rattle.phases.specs.Occ.{occ-append, occ-range, Member}
-use Rattle.phases.specs.Fit.{Fit, less?}
+use Rattle.loops.specs.Entry.{entry_at, entry-take, entry-drop}
+use Rattle.phases.specs.System.{Shape, combined}
+use Rattle.phases.specs.Fit.{less?}
 
 module _ (z : Shape) (binary binary' octets : List ℕ) where
   pub combined_ignores : take (z.s * z.n) binary ≡ take (z.s * z.n) binary'

@@ -2,12 +2,11 @@
 --   added, multiplied   the operations of a list that are additions, and those that are multiplications
 --   adds_are, muls_are  the counts of a list are how many these are
 -- Assumes nothing.
-use Rattle.std.specs.Prelude.{◌≡◌, refl, ◌≢◌, Bool, true, false, cond, List, [], ◌∷◌, ◌++◌, ℕ, ◌+◌, ltb, length}
+use Rattle.std.specs.Prelude.{◌≡◌, refl, List, [], ◌∷◌, length}
 use Rattle.std.proofs.Common.{arith}
 use Rattle.oplist.specs.declared.Op.{Op}
 use Rattle.oplist.specs.declared.Op.TheVariants.{AddAssign, MulAssign, FMA}
-use Rattle.oplist.specs.Count.{adds, muls, adds-append, muls-append}
-use Rattle.phases.specs.Run.{Run, End, solved, no_pivot, singular, whole, counts, no_counts, ListFull, ending, answer}
+use Rattle.oplist.specs.Count.{adds, muls}
 
 -- the AddAssign and FMA entries of a list, and its MulAssign and FMA entries
 abbrev pub added : List Op → List Op

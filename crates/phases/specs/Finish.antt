@@ -4,23 +4,20 @@
 --   has-true, kept-each, kept_on, kept_run   the operations kept: in the chosen rows they do what all do
 --   Zeros, Column            a column with zeros in the steps' rows; the column of one of the steps
 -- Assumes nothing.
-use Rattle.std.specs.Prelude.{◌≡◌, refl, ◌≢◌, Bool, true, false, ◌||◌, List, [], ◌∷◌, ℕ, zero, suc, ◌-◌, eqb}
-use Rattle.std.proofs.Common.{sym, ap, ap₂, ◌∙◌, subst, not-suc-le-zero, arith}
-use Rattle.std.proofs.Math.Path.{fun_ext}
+use Rattle.std.specs.Prelude.{◌≡◌, refl, Bool, true, false, ◌||◌, List, [], ◌∷◌, ℕ, ◌-◌, eqb}
+use Rattle.std.proofs.Common.{sym, ap, ap₂, ◌∙◌, arith}
 use Rattle.octet.specs.Field as L
-use Rattle.octet.specs.Field.{Octets, mul-zero}
 use Rattle.octet.specs.Octet.{add, mul}
 use Rattle.oplist.specs.Ops.{dest, Each, each_append, source}
 use Rattle.oplist.specs.declared.Op.{Op}
 use Rattle.oplist.specs.declared.Op.TheVariants.{AddAssign, MulAssign, FMA}
 use Rattle.algebra.specs.Loops.{idle}
-use Rattle.algebra.specs.Rows.{value, step, inverse, undo, run, put_same, put_other, run_octet, run-append, Good}
-use Rattle.algebra.specs.Sums.{pick, pick_eq, pick_ne, delta}
-use Rattle.phases.specs.Clear.{bump, bump_octet}
-use Rattle.phases.specs.Occ.{tick, occ, tick_eq, tick_ne, Same?, yes_same, not_same, same?, Once, Member}
-use Rattle.phases.specs.One.{Step, entry, clears, rows_of, pivots_of, ops_one}
-use Rattle.phases.specs.Rest.{has, kept, keep_op, gather, phase_four}
-use Rattle.phases.specs.Sweep.{Every, Entries}
+use Rattle.algebra.specs.Rows.{value, step, inverse, undo, run, put_other, Good}
+use Rattle.algebra.specs.Sums.{pick, delta}
+use Rattle.phases.specs.Occ.{tick, occ, Member}
+use Rattle.phases.specs.One.{Step}
+use Rattle.phases.specs.Rest.{has, kept, keep_op}
+use Rattle.phases.specs.Sweep.{Every}
 
 -- operations within some rows
 abbrev pub On : List ℕ → Op → Type 0

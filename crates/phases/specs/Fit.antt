@@ -5,10 +5,10 @@
 --   less?                   a number is below another or not
 -- Assumes nothing.
 use Rattle.std.specs.Prelude.{◌≡◌, refl, ◌⊎◌, Bool, true, false, List, ◌++◌, ℕ, ◌+◌, ◌-◌, ◌<◌, ◌≤◌, ltb}
-use Rattle.std.proofs.Common.{ap, ◌∙◌, inl, inr, arith, ltb-true, ltb-false}
+use Rattle.std.proofs.Common.{inl, inr, arith, ltb-true, ltb-false}
 use Rattle.octet.specs.Field.{Octet}
 use Rattle.phases.specs.System.{Shape, range, first_rows, octet_rows}
-use Rattle.phases.specs.Occ.{occ, occ-append, occ-range, Member, Once}
+use Rattle.phases.specs.Occ.{occ, occ-range, Member}
 
 pub record Fit (z : Shape) (A : ℕ → ℕ → ℕ) : Type 0 where
   pub entries : (x q : ℕ) → Octet (A x q)

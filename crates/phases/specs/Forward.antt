@@ -4,29 +4,22 @@
 --   Stage           phase two after some columns
 --   Ended           how it ends: all columns, or stuck at one that has no nonzero left
 -- Assumes nothing.
-use Rattle.std.specs.Prelude.{◌≡◌, refl, ◌≢◌, Bool, true, false, not, List, [], ◌∷◌, ◌++◌, eqb, get_or, take, drop}
-use Rattle.std.proofs.Common.{sym, ap, ap₂, ◌∙◌, append_assoc, append-nil, zero-add, take-suc, eq-eqb, eqb-true}
+use Rattle.std.specs.Prelude.{◌≡◌, refl, List, [], ◌∷◌, ◌++◌, take}
+use Rattle.std.proofs.Common.{sym, ap, ap₂, ◌∙◌, append_assoc, append-nil}
 use Rattle.std.proofs.Math.Path.{subst}
-use Rattle.std.proofs.Math.Option.{Option, some, none}
-use Prim.Native.Nat.{ℕ, zero, suc, ◌+◌, ◌-◌, ◌<◌, ◌≤◌}
+use Prim.Native.Nat.{ℕ, ◌+◌, ◌-◌, ◌<◌}
 use native.Mathlib.Omega.{arith}
 use Rattle.std.proofs.Math.ListN.{length}
-use Rattle.oplist.specs.Multiple.{multiple}
-use Rattle.loops.specs.Loop.{for_to, up}
-use Rattle.loops.specs.Out.{Out, done}
-use Rattle.loops.specs.Way.{Way, go, halt, bind_way, map_way, after, for_way}
+use Rattle.loops.specs.Out.{Out}
+use Rattle.loops.specs.Way.{Way, go, halt}
 use Rattle.oplist.specs.declared.Op.{Op}
-use Rattle.oplist.specs.Ops.{Each, each_append}
-use Rattle.algebra.specs.Rows.{runs, Within}
-use Rattle.rule.specs.Lists.{filter, head}
-use Rattle.rule.specs.Rule.{without}
-use Rattle.rule.specs.Sets.{in_filter, filter_in, head_in, head-some, tf}
+use Rattle.algebra.specs.Rows.{runs}
 use Rattle.phases.specs.One.{Step, entry, clears, pivots_of}
-use Rattle.phases.specs.Two.{at, acts, scaled, column_ops, Second, given, giving, turn, forward}
-use Rattle.phases.specs.Occ.{occ, tick_eq, occ-without, Member, Once, in_member, member_in}
-use Rattle.phases.specs.Sweep.{last-rows, last-rows-snoc}
-use Rattle.phases.specs.Gauss.{Works, Pivot, ops_at, ops_two, works_kept}
-use Rattle.phases.specs.Matrix.{runs_append, Full, Shows, acts-full, shows_acts}
+use Rattle.phases.specs.Two.{at, Second}
+use Rattle.phases.specs.Occ.{tick_eq, Member}
+use Rattle.phases.specs.Sweep.{last-rows}
+use Rattle.phases.specs.Gauss.{Works, Pivot, ops_at, ops_two}
+use Rattle.phases.specs.Matrix.{runs_append, Full, Shows}
 
 -- one column more
 pub ops_two-snoc : (B : ℕ → ℕ → ℕ) (us : List Step) (t : Step) → ops_two B (us ++ (t ∷ [])) ≡ ops_two B us ++ ops_at (runs (ops_two B us) B) t

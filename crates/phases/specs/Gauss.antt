@@ -5,20 +5,15 @@
 --   works_within the operations can be undone, and stay within the rows
 --   above   clearing above
 -- Assumes nothing.
-use Rattle.std.specs.Prelude.{◌≡◌, refl, ◌≢◌, List, [], ◌∷◌, ◌++◌, ℕ, zero, suc, ◌+◌, ◌-◌, ◌<◌, ◌≤◌, eqb}
-use Rattle.std.proofs.Common.{sym, ap, ap₂, ◌∙◌, subst, suc-ne-zero, arith}
-use Rattle.std.proofs.Math.Path.{fun_ext}
+use Rattle.std.specs.Prelude.{◌≡◌, ◌≢◌, List, [], ◌∷◌, ◌++◌, ℕ, ◌+◌, ◌-◌, ◌<◌}
+use Rattle.std.proofs.Common.{arith}
 use Rattle.octet.specs.Field as L
-use Rattle.octet.specs.Field.{Octet, Octets, mul-zero}
-use Rattle.octet.specs.Octet.{add, mul, inverse}
-use Rattle.oplist.specs.Ops.{Each, each_append}
 use Rattle.oplist.specs.declared.Op.{Op}
-use Rattle.algebra.specs.Rows.{run, runs, put, put_same, put_other, column, run_octet, run-append, Good, Within}
-use Rattle.algebra.specs.Sums.{pick_eq, pick_ne, delta}
-use Rattle.phases.specs.Occ.{tick, occ, tick_eq, tick_ne, occ-append, Same?, yes_same, not_same, same?, Once}
+use Rattle.algebra.specs.Rows.{runs}
+use Rattle.phases.specs.Occ.{occ}
 use Rattle.phases.specs.One.{Step, clears, rows_of}
-use Rattle.phases.specs.Sweep.{Every, every_map, every-both, Entries, runs-entries, last-rows}
-use Rattle.phases.specs.Two.{scaled, column_ops}
+use Rattle.phases.specs.Sweep.{Every, last-rows}
+use Rattle.phases.specs.Two.{column_ops}
 
 -- forward
 -- the step's operations in the matrix as it stands

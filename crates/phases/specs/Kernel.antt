@@ -6,23 +6,18 @@
 --   Halt                     a run that stops at a column without pivot
 --   vs                       its vector: 1 at that column, and at each step's column what its row makes of those after it
 -- Assumes nothing.
-use Rattle.std.specs.Prelude.{◌≡◌, refl, Bool, true, false, cond, List, [], ◌∷◌, ◌++◌, ℕ, ◌+◌, ◌-◌, ◌<◌, ◌≤◌, eqb}
-use Rattle.std.proofs.Common.{sym, ap, ap₂, ◌∙◌, subst, inl, inr, not-suc-le-zero, arith, lit<, eq-eqb, ne_eqb}
-use Rattle.std.proofs.Math.Path.{fun_ext}
+use Rattle.std.specs.Prelude.{◌≡◌, refl, Bool, cond, List, [], ◌∷◌, ◌++◌, ℕ, ◌+◌, ◌-◌, ◌<◌, ◌≤◌, eqb}
+use Rattle.std.proofs.Common.{sym, ap, ap₂, ◌∙◌, arith, eq-eqb, ne_eqb}
 use Rattle.octet.specs.Field as L
-use Rattle.octet.specs.Field.{Octet, Octets, zero-add, mul-zero}
+use Rattle.octet.specs.Field.{Octet, zero-add, mul-zero}
 use Rattle.octet.specs.Octet.{add, mul}
-use Rattle.oplist.specs.Ops.{Each, each_append}
 use Rattle.oplist.specs.declared.Op.{Op}
-use Rattle.algebra.specs.Rows.{runs, column, run-append, Good, Within}
-use Rattle.algebra.specs.Solve.{Makes}
-use Rattle.algebra.proofs.Solve.{kernel_back}
-use Rattle.algebra.specs.Sums.{pick, pick_eq, pick_ne, delta, dot, sum_ext, sum_one, sum-zero, sum-add}
-use Rattle.phases.specs.Gauss.{Works, works_kept, Stairs, falls, Falls, ops_two}
-use Rattle.phases.specs.Occ.{tick, occ, tick_eq, tick_ne, Same?, yes_same, not_same, same?, Once, Member}
-use Rattle.phases.specs.One.{Step, rows_of, pivots_of, ops_one}
-use Rattle.phases.specs.Solved.{Among, every-at, every_of, row_among, rows_append, left_under}
-use Rattle.phases.specs.Sweep.{Every, Legal, Entries, runs-entries, last-rows, rows-kept, Unit_at}
+use Rattle.algebra.specs.Rows.{runs, column}
+use Rattle.algebra.specs.Sums.{pick, pick_eq, pick_ne, dot, sum_ext, sum_one, sum-zero, sum-add}
+use Rattle.phases.specs.Gauss.{Works, ops_two}
+use Rattle.phases.specs.Occ.{tick, occ, tick_eq, Same?, yes_same, not_same, same?, Once, Member}
+use Rattle.phases.specs.One.{Step, pivots_of, ops_one}
+use Rattle.phases.specs.Sweep.{Every, Legal, Entries, last-rows}
 
 -- a vector as a list of columns, each with its value
 pub record Value : Type 0 where

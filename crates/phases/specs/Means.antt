@@ -4,36 +4,22 @@
 --   Blank        columns are left in V, and no eligible row has a nonzero there, as it was given and after the list
 --   Says         what each end of a run says
 -- Assumes nothing.
-use Rattle.std.specs.Prelude.{◌≡◌, refl, ◌≢◌, Bool, true, false, cond, List, [], ◌∷◌, ◌++◌, map, ℕ, zero, suc, ◌+◌, ◌-◌, ◌<◌, ◌≤◌, eqb, length, get_or, take, drop}
-use Rattle.std.proofs.Common.{sym, ap, ap₂, ◌∙◌, subst, append_assoc, zero-add, not-suc-le-zero, arith, lit<, take-append-drop, take-suc, length-take-le, get_or-take, drop-cons}
-use Rattle.std.proofs.lemmas.List.{length-map}
-use Rattle.std.proofs.Math.Seq.{take-length}
+use Rattle.std.specs.Prelude.{◌≡◌, ◌≢◌, List, [], ◌++◌, ℕ, ◌+◌, ◌<◌, length, get_or}
 use Rattle.loops.specs.Out.{Out}
-use Rattle.loops.specs.Way.{Way, go, halt}
-use Rattle.octet.specs.Octet.{mul}
+use Rattle.loops.specs.Way.{Way, halt}
 use Rattle.octet.specs.Field.{Octets}
 use Rattle.oplist.specs.declared.Op.{Op}
-use Rattle.oplist.specs.Ops.{Each}
-use Rattle.algebra.specs.Sums.{sum_ext}
-use Rattle.algebra.specs.Rows.{runs, undo, Within}
+use Rattle.algebra.specs.Rows.{runs}
 use Rattle.algebra.specs.Solve.{Reduces, Makes}
-use Rattle.phases.specs.System.{Shape, range, first_rows, octet_rows}
-use Rattle.phases.specs.One.{Step, Phase, rows_of, pivots_of, phase_one, ops_one}
-use Rattle.phases.specs.Two.{at, acts, working, Second, forward, backward}
-use Rattle.phases.specs.Rest.{kept, phase_four, beside, by-column, by_substitution}
-use Rattle.phases.specs.Run.{Run, End, solved, no_pivot, singular, whole, finish, second, refused, goes_on, defined}
-use Rattle.phases.specs.Occ.{tick, occ, tick_eq, occ-append, Member, Once}
-use Rattle.phases.specs.Fit.{Fit, all-rows, cols-occ, cols_once, cols-below}
-use Rattle.phases.specs.Sweep.{last-rows, rows-kept}
-use Rattle.phases.specs.Gauss.{Works, works_kept, ops_two, above}
-use Rattle.phases.specs.Solved.{Course, the_list, list_two, list_kept, pivots_append, row_of}
-use Rattle.phases.specs.Kernel.{Halt, Value, chain, value_of, cols_of, absent}
+use Rattle.phases.specs.System.{Shape, octet_rows}
+use Rattle.phases.specs.One.{Step, Phase, phase_one, ops_one}
+use Rattle.phases.specs.Two.{acts, working, Second, forward}
+use Rattle.phases.specs.Run.{Run, End, solved, no_pivot, singular, whole}
+use Rattle.phases.specs.Occ.{Member}
+use Rattle.phases.specs.Fit.{Fit}
+use Rattle.phases.specs.Gauss.{ops_two}
 use Rattle.phases.specs.Kernel as Ker
-use Rattle.phases.specs.Walk.{Walked}
-use Rattle.phases.specs.Matrix.{Full, Shows, acts-full, shows_acts, working-full, shows_working, length-range, get_or-map-range}
-use Rattle.phases.specs.Forward.{Stage, Ended}
-use Rattle.phases.specs.ByPlace.{rows_join, pivots_join, length_pivots_of, backward-is, beside_more}
-use Rattle.phases.specs.Vector.{vals_of, length_vals, beside-value, chain-cols_are}
+use Rattle.phases.specs.Forward.{Stage}
 
 module _ (z : Shape) (A : ℕ → ℕ → ℕ) where
   -- the columns left in V and the inactive ones

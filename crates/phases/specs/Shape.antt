@@ -7,26 +7,16 @@
 --   Identity 5.4.2.6: every column is the unit of its row
 --   Shapes   and each shape after its phase, where the run is solved: the steps are a course, so that each column is exactly one step's
 -- Assumes nothing.
-use Rattle.std.specs.Prelude.{◌≡◌, refl, Bool, true, false, cond, List, [], ◌++◌, ℕ, ◌+◌, ◌<◌, ◌≤◌, length}
-use Rattle.std.proofs.Common.{sym, ap, ap₂, ◌∙◌, subst, arith}
-use Rattle.loops.specs.Out.{Out}
-use Rattle.loops.specs.Way.{Way, go, halt}
-use Rattle.oplist.specs.declared.Op.{Op}
+use Rattle.std.specs.Prelude.{◌≡◌, List, ◌++◌, ℕ, ◌+◌, ◌<◌}
 use Rattle.algebra.specs.Sums.{delta}
-use Rattle.algebra.specs.Rows.{runs, undo}
-use Rattle.phases.specs.System.{Shape, range, octet_rows}
-use Rattle.phases.specs.One.{Step, Phase, rows_of, phase_after, phase_one, ops_one}
-use Rattle.phases.specs.Two.{Second, acts, working, forward}
-use Rattle.phases.specs.Rest.{phase_four}
-use Rattle.phases.specs.Run.{Run, whole, solved, finish, second, refused, goes_on, defined}
-use Rattle.phases.specs.Occ.{occ, Member}
-use Rattle.phases.specs.Fit.{Fit, all-rows}
-use Rattle.phases.specs.Sweep.{Every, every_map, Triangle, last-rows, last-cols, rows-kept}
-use Rattle.phases.specs.Gauss.{ops_two, above}
-use Rattle.phases.specs.Solved.{Among, every-at, every_of, found, Course, list_two, list_kept, the_list}
-use Rattle.phases.specs.Walk.{Walked}
-use Rattle.phases.specs.Matrix.{runs_append}
-use Rattle.phases.specs.Forward.{Ended}
+use Rattle.algebra.specs.Rows.{runs}
+use Rattle.phases.specs.System.{Shape, range}
+use Rattle.phases.specs.One.{Step, rows_of}
+use Rattle.phases.specs.Run.{Run}
+use Rattle.phases.specs.Occ.{Member}
+use Rattle.phases.specs.Fit.{all-rows}
+use Rattle.phases.specs.Sweep.{Every, Triangle}
+use Rattle.phases.specs.Solved.{Course}
 
 pub record First (m : ℕ) (A B : ℕ → ℕ → ℕ) (ts : List Step) (left V' : List ℕ) : Type 0 where
   pub unit : Every (λ t. (x : ℕ) → x < m → B x t.pivot ≡ delta x t.row) ts

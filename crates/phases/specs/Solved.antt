@@ -5,24 +5,16 @@
 --   Course                   a run that gives every column a row
 --   list_two, list_kept, the_list   its list, by step
 -- Assumes nothing.
-use Rattle.std.specs.Prelude.{◌≡◌, refl, ◌≢◌, ◌⊎◌, Bool, cond, List, [], ◌∷◌, ◌++◌, ℕ, ◌+◌, ◌-◌, ◌<◌, ◌≤◌, eqb}
-use Rattle.std.proofs.Common.{sym, ap, ap₂, ◌∙◌, subst, inl, inr, not-suc-le-zero, arith, eq-eqb, ne_eqb}
+use Rattle.std.specs.Prelude.{◌≡◌, refl, ◌⊎◌, Bool, cond, List, [], ◌∷◌, ◌++◌, ℕ, ◌+◌, ◌-◌, ◌<◌, ◌≤◌, eqb}
+use Rattle.std.proofs.Common.{sym, ap, ◌∙◌, subst, inl, inr, not-suc-le-zero, arith, eq-eqb, ne_eqb}
 use Rattle.octet.specs.Field as L
-use Rattle.octet.specs.Field.{Octets}
-use Rattle.octet.specs.Octet.{add}
-use Rattle.oplist.specs.Ops.{Each, each_append}
 use Rattle.oplist.specs.declared.Op.{Op}
-use Rattle.algebra.proofs.Loops.{restored}
-use Rattle.algebra.specs.Rows.{undo, run, runs, column, run_octet, run-append, Good, Within}
-use Rattle.algebra.proofs.Rows.{undo-run, good_undo, within_undo}
-use Rattle.algebra.specs.Solve.{Reduces}
-use Rattle.algebra.specs.Sums.{pick_eq, pick_ne, delta}
-use Rattle.phases.specs.Finish.{On, From, run_alike, run_off, run_none, on-undo, kept-each, kept_on, kept_run, Column}
-use Rattle.phases.specs.Gauss.{Works, works_kept, Stairs, falls, ops_two, ops_at, above}
+use Rattle.algebra.specs.Rows.{undo, runs}
+use Rattle.phases.specs.Gauss.{Works, works_kept, ops_two, ops_at, above}
 use Rattle.phases.specs.Occ.{tick, occ, tick_eq, tick_ne, Same?, yes_same, not_same, same?, Once, Member}
 use Rattle.phases.specs.One.{Step, rows_of, pivots_of, ops_one}
 use Rattle.phases.specs.Rest.{kept, phase_four, beside}
-use Rattle.phases.specs.Sweep.{Every, Legal, Entries, runs-entries, last-rows, rows-kept, Unit_at}
+use Rattle.phases.specs.Sweep.{Every, Legal, Entries, last-rows}
 
 -- a step of the list
 abbrev pub Among : Step → List Step → Type 0

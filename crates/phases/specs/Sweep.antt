@@ -8,17 +8,15 @@
 --   Unit_at    each step's column becomes the unit of its row; the chosen rows are zeros in what is left of V
 --   Triangle             the given matrix is a lower triangle at the steps' rows and columns
 -- Assumes nothing.
-use Rattle.std.specs.Prelude.{◌≡◌, refl, ◌≢◌, List, [], ◌∷◌, ◌++◌, ℕ, ◌+◌, ◌-◌, ◌<◌, ◌≤◌, eqb}
-use Rattle.std.proofs.Common.{sym, ap, ap₂, ◌∙◌, arith}
+use Rattle.std.specs.Prelude.{◌≡◌, refl, List, [], ◌∷◌, ◌++◌, ℕ, ◌+◌, ◌-◌, ◌<◌, ◌≤◌}
+use Rattle.std.proofs.Common.{arith}
 use Rattle.octet.specs.Field as L
-use Rattle.octet.specs.Field.{Octet, Octets, mul-zero}
-use Rattle.octet.specs.Octet.{add, mul}
-use Rattle.oplist.specs.Ops.{Each, each_append}
+use Rattle.octet.specs.Field.{Octet}
 use Rattle.oplist.specs.declared.Op.{Op}
-use Rattle.algebra.specs.Rows.{run, runs, column, run_octet, run-append, Good, Within}
-use Rattle.algebra.specs.Sums.{pick_eq, pick_ne, delta}
-use Rattle.phases.specs.Occ.{tick, occ, tick_eq, tick_ne, Same?, yes_same, not_same, same?, Once}
-use Rattle.phases.specs.One.{Step, clears, ops_one, rows_of, pivots_of}
+use Rattle.algebra.specs.Rows.{runs, column, run_octet}
+use Rattle.algebra.specs.Sums.{delta}
+use Rattle.phases.specs.Occ.{occ}
+use Rattle.phases.specs.One.{Step, rows_of}
 
 abbrev pub Every : (Step → Type 0) → List Step → Type 0
 Every P [] = Unit {0}

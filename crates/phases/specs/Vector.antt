@@ -4,16 +4,11 @@
 --   chain-cols_are    its columns are those of the steps, and then the one without pivot
 --   beside-value      the value beside a column
 -- Assumes nothing.
-use Rattle.std.specs.Prelude.{◌≡◌, refl, cond, List, [], ◌∷◌, ◌++◌, map, ℕ, suc, ◌+◌, ◌<◌, ◌≤◌, eqb, length, get_or, drop}
-use Rattle.std.proofs.Common.{sym, ap, ap₂, ◌∙◌, not-suc-le-zero, arith, length-drop, get_or-drop}
-use Rattle.octet.specs.Octet.{add, mul}
-use Rattle.octet.specs.Field.{add-zero, zero-mul}
-use Rattle.phases.specs.One.{Step, rows_of, pivots_of}
-use Rattle.phases.specs.Two.{at}
-use Rattle.phases.specs.Rest.{beside, weigh, values, by_substitution}
-use Rattle.phases.specs.Occ.{tick_eq, Member}
-use Rattle.phases.specs.Sweep.{Every}
-use Rattle.phases.specs.Kernel.{Value, weighs, chain, value_of, cols_of, Apart}
+use Rattle.std.specs.Prelude.{◌≡◌, refl, cond, List, [], ◌∷◌, ◌++◌, ℕ, suc, ◌+◌, eqb, length}
+use Rattle.std.proofs.Common.{ap}
+use Rattle.phases.specs.One.{Step, pivots_of}
+use Rattle.phases.specs.Rest.{beside}
+use Rattle.phases.specs.Kernel.{Value, chain, value_of, cols_of}
 
 abbrev pub vals_of : List Value → List ℕ
 vals_of [] = []

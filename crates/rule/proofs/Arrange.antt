@@ -4,7 +4,7 @@
 -- Assumes nothing.
 use Rattle.std.specs.Prelude.{◌≡◌, refl, ◌⊎◌, List, [], ◌∷◌, ◌++◌, Bool, true, false, cond, not, ℕ, zero, suc, ◌+◌, ◌-◌, ◌≤◌, ◌<◌, length, take, drop, eqb}
 use Rattle.std.proofs.Common.{sym, ap, subst, ◌∙◌, inl, inr, ⊎_elim, arith, length-drop, take-append-drop, eqb-true, eq-eqb}
-use Rattle.rule.specs.Lists.{In, Nodup, keep, filter}
+use Rattle.rule.specs.Lists.{In, Nodup}
 use Rattle.rule.specs.Sets.{bool_or, tf, length-filter}
 use Rattle.rule.specs.Permitted.{count}
 use Rattle.rule.specs.Rule.{found, put, lacks, swept, filled, rev, cut, arrange}

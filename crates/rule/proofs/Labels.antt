@@ -9,7 +9,7 @@ use Rattle.rule.specs.Lists.{In}
 use Rattle.rule.specs.Sets.{bool_or, tf, in_filter, filter_in}
 use Rattle.rule.specs.Permitted.{ones, count}
 use Rattle.rule.specs.Rule.{joint, touched, relabel, next_label, Marks, add_pair, add_pairs}
-use Rattle.rule.specs.Ground.{Way, stay, way_trans, way_back, way_shrinks, pair_way, Shrinks}
+use Rattle.rule.specs.Ground.{Way, stay, way_trans, way_back, pair_way, Shrinks}
 use Rattle.rule.specs.Labels.{Full, Same, Sound, and_both, and_cases, or_cases, or_l, or_r, sound_shrinks, two}
 
 not_eqb : (a b : ℕ) → not (eqb a b) ≡ true → a ≡ b → ⊥

@@ -3,8 +3,8 @@
 --   put_last                        the first of the reversed list is the last of the list
 -- Assumes nothing.
 use Rattle.std.specs.Prelude.{◌≡◌, refl, List, [], ◌∷◌, ◌++◌, Bool, true, false, cond, ℕ, zero, suc, ◌+◌, ◌≤◌, ◌<◌, length, get_or, set, take, drop}
-use Rattle.std.proofs.Common.{sym, ap, ap₂, subst, ◌∙◌, append_assoc, append-nil, arith, length-drop, take-append-drop, drop-set-lt, take-suc, take-suc-set, get_or-drop}
-use Rattle.std.proofs.Math.Seq.{slice, slice-cons, slice_empty, take-set-lt}
+use Rattle.std.proofs.Common.{sym, ap, ap₂, subst, ◌∙◌, append_assoc, arith, length-drop, drop-set-lt, take-suc, take-suc-set, get_or-drop}
+use Rattle.std.proofs.Math.Seq.{slice, slice-cons, take-set-lt}
 use Rattle.std.proofs.lemmas.List.{drop-set-add, take-set-le}
 use Rattle.rule.specs.Rule.{found, put, lacks, swept, filled, rev}
 use Rattle.rule.specs.Arrange.{num, num-cons, bit-true, bit-false}

@@ -10,7 +10,7 @@ use Rattle.std.proofs.lemmas.Bool.{eqb-false}
 use Rattle.rule.specs.Lists.{In, Nodup, filter, head}
 use Rattle.rule.specs.Sets.{bool_or, in_filter, filter_in, nodup_filter, head_in, head-some}
 use Rattle.rule.specs.Permitted.{count, Permitted}
-use Rattle.rule.specs.Rule.{number_of, by_least, raw_marks, first_marks, first_singles, State, start, chosen, after, arrange}
+use Rattle.rule.specs.Rule.{number_of, by_least, raw_marks, first_marks, first_singles, State, start, chosen, arrange}
 use Rattle.rule.specs.Labels.{Same, Sound, Full}
 use Rattle.rule.proofs.Labels.{sound_rows, rows_join}
 use Rattle.rule.specs.Chosen.{Right, Good, empty_none}

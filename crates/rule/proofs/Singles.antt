@@ -7,7 +7,7 @@ use Rattle.std.proofs.Common.{sym, subst, ◌∙◌, inl, inr, ⊎_elim, arith, 
 use Rattle.std.proofs.lemmas.Bool.{eqb-false}
 use Rattle.rule.specs.Lists.{In, Nodup}
 use Rattle.rule.specs.Sets.{bool_or, in_cast}
-use Rattle.rule.specs.Rule.{bring, last_first, swap_remove, lose, lose_first, refresh, replace, without}
+use Rattle.rule.specs.Rule.{bring, last_first, swap_remove, lose, lose_first, refresh}
 use Rattle.rule.specs.Singles.{Event, Exact, Removed, Subset, in_either, in_left, in_right, nodup_snoc}
 
 bring_in : (z b : ℕ) (l : List ℕ) → In z (bring b l) → In z (b ∷ l)

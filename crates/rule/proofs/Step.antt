@@ -1,12 +1,12 @@
 -- One step of phase one keeps what is known before it.
 --   right-step, good_step             the singles, and all that is known, after the step
 -- Assumes nothing.
-use Rattle.std.specs.Prelude.{◌≡◌, refl, ◌⊎◌, List, [], ◌∷◌, ◌++◌, Bool, true, false, cond, ◌&&◌, ℕ, suc, length, eqb}
-use Rattle.std.proofs.Common.{sym, ap, subst, ◌∙◌, inl, inr, ⊎_elim, arith, eqb-true, eq-eqb}
+use Rattle.std.specs.Prelude.{◌≡◌, refl, ◌⊎◌, List, [], ◌∷◌, ◌++◌, Bool, true, false, cond, ◌&&◌, ℕ, eqb}
+use Rattle.std.proofs.Common.{sym, subst, ◌∙◌, inl, inr, ⊎_elim, arith, eqb-true, eq-eqb}
 use Rattle.std.proofs.lemmas.Bool.{eqb-false}
-use Rattle.rule.specs.Lists.{In, Nodup, keep, filter}
+use Rattle.rule.specs.Lists.{In, Nodup, filter}
 use Rattle.rule.specs.Sets.{bool_or, in_filter, filter_in, in_cast}
-use Rattle.rule.specs.Permitted.{ones, count}
+use Rattle.rule.specs.Permitted.{count}
 use Rattle.rule.specs.Rule.{Marks, add_pairs, lose, lose_first, refresh, lose_col, lose_cols, refresh_all, finish, next_singles, noted, without}
 use Rattle.rule.specs.Ground.{Shrinks}
 use Rattle.rule.specs.Labels.{and_both}

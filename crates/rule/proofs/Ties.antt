@@ -1,10 +1,7 @@
 -- The smallest systems that tell the rule from what looks like it, computed: for each step the row, its column, and the columns that leave V with it.
 --   ties         what they are
 -- Assumes nothing.
-use Rattle.std.specs.Prelude.{◌≡◌, refl, Bool, List, [], ◌∷◌, ◌++◌, ℕ, zero, suc, eqb, length, get_or}
-use Rattle.std.proofs.Math.Option.{some, none}
-use Rattle.rule.specs.Permitted.{count}
-use Rattle.rule.specs.Rule.{State, start, chosen, after, Cut, arrange}
+use Rattle.std.specs.Prelude.{refl, zero}
 use Rattle.rule.specs.Ties.{Ties}
 
 pub ties : Ties

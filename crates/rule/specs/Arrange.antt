@@ -2,14 +2,9 @@
 --   num, bit                how many members pass a test; 1 or 0
 --   num-cons, bit-true, bit-false   one member more, and the list reversed; the 1 and the 0
 -- Assumes nothing.
-use Rattle.std.specs.Prelude.{◌≡◌, refl, ◌⊎◌, List, [], ◌∷◌, ◌++◌, Bool, true, false, cond, not, ℕ, zero, suc, ◌+◌, ◌-◌, ◌≤◌, ◌<◌, length, take, drop, eqb}
-use Rattle.std.proofs.Common.{sym, ap, subst, ◌∙◌, inl, inr, ⊎_elim, arith, length-drop, take-append-drop, eqb-true, eq-eqb}
-use Rattle.rule.specs.Lists.{In, Nodup, keep, filter}
-use Rattle.rule.specs.Sets.{bool_or, tf, length-filter}
-use Rattle.rule.specs.Permitted.{count}
-use Rattle.rule.specs.Rule.{found, put, lacks, swept, filled, rev, cut, arrange}
-use Rattle.rule.specs.Singles.{in_right}
-use Rattle.rule.specs.Step.{Arranged}
+use Rattle.std.specs.Prelude.{◌≡◌, List, ◌∷◌, Bool, true, false, ℕ, ◌+◌, ◌-◌, length}
+use Rattle.std.proofs.Common.{ap, arith}
+use Rattle.rule.specs.Lists.{keep, filter}
 
 -- how many members are P, and lists that agree on every P
 abbrev pub num : (ℕ → Bool) → List ℕ → ℕ

@@ -3,16 +3,15 @@
 --   Good                what phase one knows before a step
 --   empty_none   no choice, and no one in V
 -- Assumes nothing.
-use Rattle.std.specs.Prelude.{◌≡◌, refl, ◌⊎◌, List, [], ◌∷◌, Bool, true, false, cond, ◌&&◌, ◌||◌, ℕ, zero, suc, ◌≤◌, ◌<◌, length, eqb, ltb}
-use Rattle.std.proofs.Common.{sym, ap, subst, ◌∙◌, inl, inr, ⊎_elim, arith, eqb-true, eq-eqb, ltb-true, ltb-false}
-use Rattle.std.proofs.Math.Option.{Option, some, none}
+use Rattle.std.specs.Prelude.{◌≡◌, ◌⊎◌, List, Bool, true, false, ℕ, eqb}
+use Rattle.std.proofs.Common.{sym, ap, ◌∙◌, inl, inr, arith, eqb-true}
+use Rattle.std.proofs.Math.Option.{none}
 use Rattle.std.proofs.lemmas.Bool.{eqb-false}
-use Rattle.rule.specs.Lists.{In, Nodup, filter, least_pos}
-use Rattle.rule.specs.Sets.{bool_or, in_filter, filter_in, nodup_filter, sub_length, head_in, head-some, Lightest, head_least-is, head_least-some, least_pos_le, least_pos-at}
-use Rattle.rule.specs.Permitted.{ones, count, IsLeast, Joined, Reach, here, along, IsComponent, Permitted}
-use Rattle.rule.specs.Rule.{Marks, size, bigger, biggest, node, at_node, choose_at, choose}
-use Rattle.rule.specs.Ground.{way_reach}
-use Rattle.rule.specs.Labels.{Same, Sound, Full, and_cases, and_both, or_cases, or_false, two}
+use Rattle.rule.specs.Lists.{In, Nodup, least_pos}
+use Rattle.rule.specs.Sets.{bool_or, least_pos-at}
+use Rattle.rule.specs.Permitted.{count}
+use Rattle.rule.specs.Rule.{Marks, choose_at, choose}
+use Rattle.rule.specs.Labels.{Sound, Full}
 
 -- the singles list holds, once each, the eligible rows with a single one
 pub record Right (row : ℕ → ℕ → Bool) (C E singles : List ℕ) : Type 0 where

@@ -4,13 +4,13 @@
 --   Sound, Full                   the two halves of what labels say
 --   sound_shrinks, two   how they are kept
 -- Assumes nothing.
-use Rattle.std.specs.Prelude.{◌≡◌, refl, ◌⊎◌, List, [], ◌∷◌, Bool, true, false, cond, not, ◌&&◌, ◌||◌, ℕ, zero, suc, ◌≤◌, ◌<◌, length, eqb, ltb}
-use Rattle.std.proofs.Common.{sym, ap, subst, ◌∙◌, inl, inr, ⊎_elim, arith, eqb-true, eq-eqb, ne_eqb}
+use Rattle.std.specs.Prelude.{◌≡◌, refl, ◌⊎◌, List, [], ◌∷◌, Bool, true, false, ◌&&◌, ◌||◌, ℕ, ◌<◌, length}
+use Rattle.std.proofs.Common.{inl, inr, arith}
 use Rattle.rule.specs.Lists.{In}
-use Rattle.rule.specs.Sets.{bool_or, tf, in_filter, filter_in}
-use Rattle.rule.specs.Permitted.{ones, count}
-use Rattle.rule.specs.Rule.{joint, touched, relabel, next_label, Marks, add_pair, add_pairs}
-use Rattle.rule.specs.Ground.{Way, stay, way_trans, way_back, way_shrinks, pair_way, Shrinks}
+use Rattle.rule.specs.Sets.{tf}
+use Rattle.rule.specs.Permitted.{ones}
+use Rattle.rule.specs.Rule.{Marks}
+use Rattle.rule.specs.Ground.{Way, way_shrinks, Shrinks}
 
 pub or_cases : (a b : Bool) → (a || b) ≡ true → (a ≡ true) ⊎ (b ≡ true)
 or_cases true b e = inl refl

@@ -3,12 +3,10 @@
 --   turn-zero  a turn of the loop
 --   turns_end                       the end of the loop
 -- Assumes nothing.
-use Rattle.std.specs.Prelude.{◌≡◌, refl, List, [], ◌∷◌, ◌++◌, Bool, true, false, cond, ℕ, zero, suc, ◌+◌, ◌≤◌, ◌<◌, length, get_or, set, take, drop}
-use Rattle.std.proofs.Common.{sym, ap, ap₂, subst, ◌∙◌, append_assoc, append-nil, arith, length-drop, take-append-drop, drop-set-lt, take-suc, take-suc-set, get_or-drop}
-use Rattle.std.proofs.Math.Seq.{slice, slice-cons, slice_empty, take-set-lt}
-use Rattle.std.proofs.lemmas.List.{drop-set-add, take-set-le}
+use Rattle.std.specs.Prelude.{◌≡◌, refl, List, [], ◌∷◌, ◌++◌, Bool, false, cond, ℕ, suc, ◌+◌, ◌≤◌, ◌<◌, length, get_or, take, drop}
+use Rattle.std.proofs.Common.{sym, ap, ap₂, ◌∙◌, append_assoc, append-nil, arith, take-append-drop, take-suc}
+use Rattle.std.proofs.Math.Seq.{slice, slice-cons, slice_empty}
 use Rattle.rule.specs.Rule.{found, put, lacks, swept, filled, rev}
-use Rattle.rule.specs.Arrange.{num, num-cons, bit-true, bit-false}
 
 -- what the loop is to come to, from place c on: V's first k places, and the last ones
 abbrev pub front : (ℕ → Bool) → ℕ → ℕ → List ℕ → List ℕ

@@ -5,12 +5,12 @@
 --   Exact                                  a list holds exactly the rows whose count is one
 --   Event   one row's count changes
 -- Assumes nothing.
-use Rattle.std.specs.Prelude.{◌≡◌, refl, ◌⊎◌, List, [], ◌∷◌, ◌++◌, Bool, true, false, cond, ℕ, zero, suc, eqb}
-use Rattle.std.proofs.Common.{sym, subst, ◌∙◌, inl, inr, ⊎_elim, arith, eqb-true}
+use Rattle.std.specs.Prelude.{◌≡◌, refl, ◌⊎◌, List, [], ◌∷◌, ◌++◌, Bool, true, false, cond, ℕ, suc, eqb}
+use Rattle.std.proofs.Common.{sym, ◌∙◌, inl, inr, ⊎_elim, eqb-true}
 use Rattle.std.proofs.lemmas.Bool.{eqb-false}
 use Rattle.rule.specs.Lists.{In, Nodup}
-use Rattle.rule.specs.Sets.{bool_or, in_cast}
-use Rattle.rule.specs.Rule.{bring, last_first, swap_remove, lose, lose_first, refresh, replace, without}
+use Rattle.rule.specs.Sets.{in_cast}
+use Rattle.rule.specs.Rule.{replace, without}
 
 abbrev pub Subset : List ℕ → List ℕ → Type 0
 Subset s t = (z : ℕ) → In z s → In z t

@@ -2,17 +2,11 @@
 --   Arranged                          what the column rule ensures
 --   count-one, count_skip, count-zero the ones of a row in V
 -- Assumes nothing.
-use Rattle.std.specs.Prelude.{◌≡◌, refl, ◌⊎◌, List, [], ◌∷◌, ◌++◌, Bool, true, false, cond, ◌&&◌, ℕ, suc, length, eqb}
-use Rattle.std.proofs.Common.{sym, ap, subst, ◌∙◌, inl, inr, ⊎_elim, arith, eqb-true, eq-eqb}
-use Rattle.std.proofs.lemmas.Bool.{eqb-false}
+use Rattle.std.specs.Prelude.{◌≡◌, refl, ◌⊎◌, List, [], ◌∷◌, ◌++◌, Bool, true, false, ℕ, suc, length}
+use Rattle.std.proofs.Common.{ap, ◌∙◌, inl, inr, ⊎_elim}
 use Rattle.rule.specs.Lists.{In, Nodup, keep, filter}
-use Rattle.rule.specs.Sets.{bool_or, in_filter, filter_in, in_cast}
+use Rattle.rule.specs.Sets.{bool_or}
 use Rattle.rule.specs.Permitted.{ones, count}
-use Rattle.rule.specs.Rule.{Marks, add_pairs, lose, lose_first, refresh, lose_col, lose_cols, refresh_all, finish, next_singles, noted, without}
-use Rattle.rule.specs.Ground.{Shrinks}
-use Rattle.rule.specs.Labels.{and_both}
-use Rattle.rule.specs.Chosen.{Right, Good}
-use Rattle.rule.specs.Singles.{in_left, in_right, in_either, Removed, exchanged, Exact, Event}
 
 -- what the arrangement of V's columns for row x ensures: pivot in front, the row's other ones last, the rest between
 pub record Arranged (row : ℕ → ℕ → Bool) (C : List ℕ) (x pivot : ℕ) (gone C' : List ℕ) : Type 0 where

@@ -2,7 +2,7 @@
 --   choices            the steps of phase one, for a matrix given by its rows
 --   Ties         what they are
 -- Assumes nothing.
-use Rattle.std.specs.Prelude.{◌≡◌, refl, Bool, List, [], ◌∷◌, ◌++◌, ℕ, zero, suc, eqb, length, get_or}
+use Rattle.std.specs.Prelude.{◌≡◌, Bool, List, [], ◌∷◌, ◌++◌, ℕ, zero, suc, eqb, length, get_or}
 use Rattle.std.proofs.Math.Option.{some, none}
 use Rattle.rule.specs.Permitted.{count}
 use Rattle.rule.specs.Rule.{State, start, chosen, after, Cut, arrange}
