@@ -6,7 +6,7 @@
 --   by_columns                  two slabs with the same columns are the same
 --   acts-bytes                  bytes stay bytes
 --   undo-acts, acts-undo        a list and then its undo, or its undo and then the list, restore every byte
---   undo-drop   two lists after each other; one operation more of a loop that goes up, or down
+--   undo-drop                   one operation more of a loop that goes down
 -- Assumes nothing.
 use Rattle.std.specs.Prelude.{◌≡◌, ◌≢◌, Bool, ℕ, suc, ◌+◌, ◌*◌, ◌/◌, ◌%◌, ◌<◌, ◌≤◌, ltb, length, get_or, drop}
 use Rattle.std.proofs.Math.Path.{refl, ap, fun_ext}

@@ -3,7 +3,7 @@
 --   unique, injective  no other x makes D; only zeros make zeros
 --   agrees, makes, agrees_iff   rows that the order does not name become zeros exactly if some x makes D, and then what is read makes D
 --   same_set           two lists that reduce one matrix give the same x
---   kernel_back   a list keeps what is sent to zeros, both ways
+--   kernel_back        what a list sends to zeros was sent to zeros before
 -- Assumes nothing.
 use Rattle.std.specs.Prelude.{◌≡◌, refl, ◌≢◌, ◌↔◌, ◌⊎◌, Bool, true, false, List, ℕ, zero, suc, ◌<◌, eqb}
 use Rattle.std.proofs.Common.{sym, ap, ◌∙◌, inl, inr, not-suc-le-zero, arith, eqb-true}

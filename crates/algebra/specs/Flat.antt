@@ -7,7 +7,7 @@
 --   length-zip, get_d_zip        how long that is, and its entries
 --   written w o l               what the operation o puts into the row that it writes
 --   act w o l, acts w os l      the slab after the operation o; after the list os
---   acts-append, acts-take   two lists after each other; one operation more of a loop that goes up, or down
+--   acts-append, acts-take   two lists after each other; one operation more of a loop that goes up
 -- Assumes nothing.
 use Rattle.std.specs.Prelude.{◌≡◌, ℕ, zero, suc, ◌+◌, ◌*◌, ◌<◌, ◌≤◌, length, get_or, take}
 use Rattle.std.proofs.Math.Path.{refl, ap}

@@ -3,7 +3,7 @@
 --   Makes m n A x D    the matrix times x is D
 --   Reduces            a list that can be undone turns the matrix into the identity, in the order's rows, and zero rows
 --   dot-unit, dot-none a unit row, and a row of zeros, times a column
---   kernel_forth   a list keeps what is sent to zeros, both ways
+--   kernel_forth       a list keeps what is sent to zeros
 -- Assumes nothing.
 use Rattle.std.specs.Prelude.{◌≡◌, refl, ◌≢◌, List, ℕ, ◌<◌}
 use Rattle.std.proofs.Common.{sym, ap, ◌∙◌}

@@ -1,6 +1,6 @@
 -- Worked examples.
---   two-by_128   2 x 128 = 29, 3 x 3 = 5
---   half                         1 / 2 = 142
+--   two-by_128   2 x 128 = 29
+--   half         1 / 2 = 142
 -- Assumes nothing.
 use Rattle.std.specs.Prelude.{◌≡◌, refl}
 use Rattle.octet.specs.Octet.{add, times, product, rest, mul, squares, inverse, quotient}

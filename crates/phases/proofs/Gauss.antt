@@ -2,7 +2,7 @@
 --   scaled_within            a scaled row
 --   works_other, works_idle  rows that are none of them, and columns of zeros, stay
 --   stairs   ones, and zeros below them
---   works_good
+--   works_good, works_within   the operations can be undone, and stay within the rows
 --   back_idle, back-other, back_good, back_within   clearing above
 --   units                    each column ends as a unit
 -- Assumes nothing.

@@ -1,8 +1,7 @@
 -- Phase two as elimination: forward to ones on a diagonal with zeros below, then to a unit in each column.
 --   ops_at, ops_two          the operations of a step in the matrix as it stands, and of steps
 --   Pivot, Works, works_kept   a step whose row has a nonzero at its column; steps one after another; the rows are theirs and those left
---   Stairs, Falls, falls   ones, and zeros below them
---   works_within the operations can be undone, and stay within the rows
+--   Stairs, Falls, falls   ones, and zeros below them: what the laws of proofs/Gauss.antt carry along
 --   above   clearing above
 -- Assumes nothing.
 use Rattle.std.specs.Prelude.{◌≡◌, ◌≢◌, List, [], ◌∷◌, ◌++◌, ℕ, ◌+◌, ◌-◌, ◌<◌}
