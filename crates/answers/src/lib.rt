@@ -106,6 +106,7 @@ pub fn shown(a: Answer) -> Display
 }
 
 // The rooms for m rows and l columns, for any number of octet rows.
+#[tactic(auto, using(crate::proofs::Short::short_is, crate::proofs::Short::short_number))]
 pub fn needs(m: usize, l: usize) -> Need
     ensures { Needed m l result }
 {

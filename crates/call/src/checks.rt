@@ -44,6 +44,7 @@ pub fn is_shaped(
 }
 
 // Whether every entry is 0 or 1. It goes on after one that is not, so that the loop becomes vector code.
+#[tactic(auto, using(crate::specs::Tests::sofar_next, crate::specs::Tests::sofar_bad))]
 fn is_binary(bits: &[u8]) -> bool
     ensures { result ≡ bitwise bits.now }
 {

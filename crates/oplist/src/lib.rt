@@ -82,6 +82,7 @@ pub fn unpack(w: u64) -> Word
 }
 
 // The operation that adds c times row x to row y.
+#[tactic(auto, unfolding(crate::specs::Multiple::multiple))]
 pub fn multiple_of(c: u8, y: usize, x: usize) -> Op
     ensures { result ≡ multiple c y x }
 {

@@ -20,11 +20,13 @@ use lib.Dec.{leb, lit<, lit≤}
 use lib.ListN.{length, get_or, drop, drop_of_length-le}
 use lib.Seq.{drop-cons}
 use Rattle.params.specs.Table.{Row, table}
-use Rattle.params.specs.Params.{pick, Entry, entry, none, first, length_of, answer}
+use Rattle.bounds.specs.Bounds.{most_rows}
+use Rattle.params.specs.Answers.{answer-found}
+use Rattle.params.specs.Params.{pick, Entry, entry, none, first, length_of, sizes, answer}
 use Rattle.params.specs.Packed.{k_unit, pack, unpack, scan, packed_answer, Packed}
 use Rattle.params.specs.Rule.{Right, right-at, table-ruled}
 use Rattle.params.specs.Smallest.{first_smallest}
-use Rattle.params.specs.declared.Parameters.TheVariants.{BadCount}
+use Rattle.params.specs.declared.Parameters.TheVariants.{Found, BadCount}
 
 module _ (k : ℕ) (t : List ℕ) (i : ℕ) where
   pub scan_hit : i < length t → k ≤ (unpack (get_or t i 0)).k → scan k (drop i t) ≡ get_or t i 0
@@ -81,6 +83,9 @@ pack-answer : (r : Row) → Right r → packed_answer (pack r) ≡ answer (entry
 pack-answer r c =
     let l = c.s-below-k in
     packed-some (pack r) (λ e. omega arith) ∙ ap (λ (q : Row). answer (entry q)) c.packs
+
+pub found_packed : (x : ℕ) → x ≢ 0 → length_of (unpack x) ≤ most_rows → Found (sizes (unpack x)) ≡ packed_answer x
+found_packed x h l = sym (packed-some x h ∙ answer-found (unpack x) l)
 
 pub word-packed : (k : ℕ) → Packed (word (first k table))
 word-packed k = go (first k table) refl

@@ -531,6 +531,7 @@ fn find(table: &[u64], k: usize) -> u64
 }
 
 // The sizes that a packed row gives; BadCount where there is no row, or L exceeds the bound.
+#[tactic(auto, using(crate::proofs::Packing::found_packed))]
 fn answer(row: u64) -> Parameters
     requires { Packed row }
     ensures { result ≡ packed_answer row }

@@ -5,10 +5,6 @@ use Rattle.answers.specs.declared.Need.TheVariants.{Entries}
 use Rattle.answers.specs.Rooms.{need_of, need_met}
 use Rattle.answers.proofs.needs.Goals as goal
 
-pub returns-then-l-lt1 : goal.returns-then-l-lt1
-unfolding need_of
-returns-then-l-lt1 c = need_met (rw (lt-leb _ _ c.if-l-lt1.true))
-
 pub returns-then-m-l : goal.returns-then-m-l
 unfolding need_of
 returns-then-m-l c = need_met (rw (le-leb _ _ c.if-l-lt1.false, lt-leb _ _ c.if-m-l.true))

@@ -11,8 +11,5 @@ returns-then-row-eq0 c = sym (packed_none _ c.if-row-eq0.true)
 pub overflow_add-l : goal.overflow_add-l
 overflow_add-l c = Fits-under _ _ 65_536 (front_small _ _ _ c.requires.l_small) tt
 
-pub returns-then-l-le-MOST_ROWS : goal.returns-then-l-le-MOST_ROWS
-returns-then-l-le-MOST_ROWS c = sym (packed-some _ c.if-row-eq0.false ∙ answer-found _ c.if-l-le-MOST_ROWS.true)
-
 pub returns : goal.returns
 returns c = sym (packed-some _ c.if-row-eq0.false ∙ answer_long _ c.if-l-le-MOST_ROWS.false)

@@ -1,4 +1,5 @@
 -- `params::params` meets its contract: the code's table is the table, packed. Assumes nothing.
+use Rattle.std.proofs.Common.{◌≡◌, arith}
 use mathlib.Core.Path.{sym, ap, ◌∙◌, subst}
 use Rattle.params.specs.Table.{table}
 use Rattle.params.specs.Packed.{packed_answer, Packed}
@@ -18,4 +19,5 @@ unfolding table
 returns c =
     let k = c.args.k in
     let e = c.answer.ensures ∙ ap packed_answer (c.find.ensures ∙ scan-table k) ∙ word-answer k in
-    answered k _ (e ∙ sym (at_some k c.if-k-eq0.false))
+    let h : k ≡ 0 → ⊥ = omega arith in
+    answered k _ (e ∙ sym (at_some k h))

@@ -1,4 +1,5 @@
 -- `shown::show` meets its contract: what reading left in the rooms is what the form says. Assumes nothing.
+use Rattle.std.proofs.Common.{◌≤◌, length, arith}
 use mathlib.Core.Path.{ap, ◌∙◌}
 use mathlib.Core.Path.{refl}
 use Rattle.stored.specs.Answers.{Got}
@@ -20,5 +21,6 @@ pub returns : goal.returns
 unfolding showing
 returns c =
     let e = c.read-answer.ensures.is in
-    rw (le-leb _ _ c.if-form-gt65536.false)
+    let few : length c.args.form.now ≤ 65536 = omega arith in
+    rw (le-leb _ _ few)
     (same_screen (c.put_answer.ensures ∙ ap (puts byte _) (read_shown _ _ _ _ _ _ e).is) (ap (λ (g : Got). g.list) e) (ap (λ (g : Got). g.order) e))

@@ -32,4 +32,4 @@ returns c =
     let s = size-at b _ _ _ n c.number2-l.ensures.0 c.order_size.ensures.0 in
     let f = flag_at b _ n in
     c.unused_fine.ensures ∙ ap (unused_fine b 13) n
-    ∙ sym (formed_rest b c.if-size-lt14.false (omega (arith, c.number4.ensures.0, c.if-number4-size.false)) c.if-form-ne1.false (omega (arith, c.if-flag-gt1.false)) (c.if-size-at-2.false ∙ s))
+    ∙ sym (formed_rest b c.if-size-lt14.false (omega (arith, c.number4.ensures.0, c.if-number4-size.false)) c.if-form-ne1.false (omega arith) (c.if-size-at-2.false ∙ s))
