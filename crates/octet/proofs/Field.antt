@@ -1,6 +1,6 @@
 -- The laws of the octets, for whoever does algebra with them. Each holds for all numbers, or says which are octets.
 --   inv_mul               the inverse of what is not zero, times it, is one
---   mul-undo, mul_redo   what follows: a sum of four, the middle two exchanged; an addition and a multiplication undone
+--   mul-undo, mul_redo   a multiplication undone, either way round
 -- Assumes nothing.
 use Rattle.std.specs.Prelude.{◌≡◌, ◌≢◌, ℕ}
 use Rattle.std.proofs.Common.{sym, ap, ◌∙◌, pos_of_ne-zero}

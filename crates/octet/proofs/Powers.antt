@@ -1,8 +1,8 @@
 -- Powers of octets; the inverse, which is the 254th power, and quotients.
 --   power_of_two         every octet but zero is a power of 2
 --   power_255            and its 255th power is 1
---   mul-inverse   the inverse is the 254th power, an octet, and what its name says
---   mul_cancel, mul-zero           a product of four; what is not zero is cancelled
+--   mul-inverse   the inverse is what its name says
+--   mul_cancel, mul-zero           what is not zero is cancelled
 --   mul-quotient, quotient_only   the quotient is the one octet whose product with the divisor is the dividend
 --   quotient-powers      the quotient by the exponents
 -- Assumes nothing.

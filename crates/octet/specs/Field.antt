@@ -4,7 +4,7 @@
 --   add_comm, add_assoc, add-zero, zero-add, add_self   addition: a group in which each element is its own inverse
 --   mul_comm, mul_assoc, mul-add, add-mul   multiplication: commutative, associative, distributes over addition
 --   one-mul, mul-one, zero-mul, mul-zero   one times an octet is the octet, zero times a number is zero, from either side
---   exchange, add-undo   what follows: a sum of four, the middle two exchanged; an addition and a multiplication undone
+--   exchange, add-undo   what follows: a sum of four, the middle two exchanged; an addition undone
 -- Assumes nothing.
 use Rattle.std.specs.Prelude.{◌≡◌, ℕ, ◌<◌}
 use Rattle.std.proofs.Common.{ap, ◌∙◌}

@@ -2,9 +2,9 @@
 --   power_zero, power-suc, power-add, power-mul, power_twice, power-one, power_swap, power_lt   powers, by their exponents
 --   powers n x           x, 2 x, 4 x, .., n of them
 --   either               one of two tests holds, or both
---   inverse-power, inverse_lt   the inverse is the 254th power, an octet, and what its name says
---   mul_swap           a product of four; what is not zero is cancelled
---   quotient_lt, quotient-zero   the quotient is the one octet whose product with the divisor is the dividend
+--   inverse-power, inverse_lt   the inverse is the 254th power, and an octet
+--   mul_swap           a product of four
+--   quotient_lt, quotient-zero   the quotient is an octet; that of zero is zero
 -- Assumes nothing.
 use Rattle.std.specs.Prelude.{◌≡◌, refl, Bool, true, false, List, [], ◌∷◌, ℕ, zero, suc, ◌+◌, ◌-◌, ◌<◌}
 use Rattle.std.proofs.Common.{sym, ap, ◌∙◌, zero-add, suc-add, lit<}

@@ -5,7 +5,7 @@
 --   odd_lt                         the last digit of a number is below 2
 --   add_mod, add_shr, add_double   the sum of the low digits, of the high digits, of doubles
 --   Additive f                     f of a sum is the sum
---   at-zero                        such an f is 0 at 0
+--   at_zero                        such an f is 0 at 0
 --   agree                          two such functions that agree at the powers of 2 below 2 ^ k agree below 2 ^ k
 -- Assumes nothing.
 use Rattle.std.specs.Prelude.{◌≡◌, refl, ℕ, zero, suc, ◌+◌, ◌*◌, ◌/◌, ◌%◌, ◌^◌, ◌<◌}

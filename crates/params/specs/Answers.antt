@@ -1,5 +1,5 @@
 -- What `params_of` answers: the sizes of the smallest K' that is not below k, and BadCount exactly where there is none to give.
---   at-zero, at_some, answer-found, answer_long   the answer case by case
+--   at_zero, at_some, answer-found, answer_long   the answer case by case
 --   Finds k z r      z are the sizes of the row r for k;  found, finds    params_of gives z exactly there
 --   Refused k        there are none to give;              bad, refused    params_of gives BadCount exactly there
 --   number_of        the number of the answer for k

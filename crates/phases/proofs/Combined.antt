@@ -1,5 +1,5 @@
 -- The combined matrix of a call is a system that the definition takes.
---   combined_binary   an octet row, and any other
+--   combined_binary   any other row
 --   combined_fit      where every byte is one, and binary entries outside the ignored rows are 0 or 1
 -- Assumes nothing.
 use Rattle.std.specs.Prelude.{◌≡◌, ◌⊎◌, Bool, true, false, cond, ◌&&◌, List, ℕ, ◌+◌, ◌-◌, ◌<◌, ◌≤◌, leb, ltb, get_or}

@@ -1,5 +1,5 @@
 -- The vector of a run that stops: it is sent to zeros, and is not all zeros.
---   chain-cols       a column that is not among them has 0; a run's columns are those of its steps and the one without pivot
+--   chain-cols       a run's columns are those of its steps and the one without pivot
 --   chosen_apart      each chosen row has zeros at the columns of later ones
 --   singular                 what its vector is
 -- Assumes nothing.

@@ -1,5 +1,5 @@
 -- Phase one as elimination: what any legal sequence of steps does to the matrix. Ties do not enter here.
---   cols-kept, inside   the rows are those chosen and those left; columns likewise, and each step's row and column are among them
+--   cols-kept, inside   columns likewise, and each step's row and column are among them
 --   ops_good, ops_within           the operations can be undone, and stay within the rows
 --   untouched, idle_all            rows, and columns of zeros, that are left alone
 --   kept-v                 V never changes

@@ -1,6 +1,6 @@
 -- The combined matrix of a call is a system that the definition takes.
 --   combined_ignores   what the binary matrix holds in the octet rows is ignored: two that are equal before and after these rows give one combined matrix
---   combined_octet   an octet row, and any other
+--   combined_octet   an octet row
 -- Assumes nothing.
 use Rattle.std.specs.Prelude.{◌≡◌, ◌⊎◌, List, ℕ, ◌+◌, ◌-◌, ◌*◌, ◌<◌, ◌≤◌, take, drop}
 use Rattle.std.proofs.Common.{sym, ap, ◌∙◌, inl, inr, lt-ltb, le-ltb, le-leb}

@@ -1,6 +1,6 @@
 -- The vector of a run that stops: it is sent to zeros, and is not all zeros.
 --   Value, weighs, chain, value_of, cols_of, Small   a vector as a list of columns, each with its value
---   absent       a column that is not among them has 0; a run's columns are those of its steps and the one without pivot
+--   absent       a column that is not among them has 0
 --   dot-weigh                the product of a row and the vector
 --   Apart      each chosen row has zeros at the columns of later ones
 --   Halt                     a run that stops at a column without pivot

@@ -3,7 +3,7 @@
 --   last-rows, last-cols, last-rows-snoc, last-cols-snoc   the rows that are left, what is left of V; one step more
 --   Entries, runs-entries          every entry is an octet, also after operations
 --   Fair, Legal, legal_snoc        a step that elimination allows; a sequence of them
---   rows-kept   the rows are those chosen and those left; columns likewise, and each step's row and column are among them
+--   rows-kept   the rows are those chosen and those left
 --   Agrees                 V never changes
 --   Unit_at    each step's column becomes the unit of its row; the chosen rows are zeros in what is left of V
 --   Triangle             the given matrix is a lower triangle at the steps' rows and columns

@@ -1,5 +1,5 @@
 -- The column rule: the same columns, a one of the chosen row in front, no one of it between.
---   num-rev   one member more, and the list reversed; the 1 and the 0
+--   num-rev   the list reversed
 --   cut_arranged, arranged  the column rule is an arrangement
 -- Assumes nothing.
 use Rattle.std.specs.Prelude.{◌≡◌, refl, ◌⊎◌, List, [], ◌∷◌, ◌++◌, Bool, true, false, cond, not, ℕ, zero, suc, ◌+◌, ◌-◌, ◌≤◌, ◌<◌, length, take, drop, eqb}

@@ -1,5 +1,5 @@
 -- The singles through a step: after each push and each removal they are exactly the rows that have a single one then.
---   removed            a removal by exchange; the chosen row's exchange with the first
+--   removed            a removal by exchange takes the row out
 --   lose_exact, lose_first_exact, refresh_exact   one row's count changes
 -- Assumes nothing.
 use Rattle.std.specs.Prelude.{◌≡◌, refl, ◌⊎◌, List, [], ◌∷◌, ◌++◌, Bool, true, false, cond, ℕ, zero, suc, eqb}

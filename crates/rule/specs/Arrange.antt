@@ -1,6 +1,6 @@
 -- The column rule: the same columns, a one of the chosen row in front, no one of it between.
 --   num, bit                how many members pass a test; 1 or 0
---   num-cons, bit-true, bit-false   one member more, and the list reversed; the 1 and the 0
+--   num-cons, bit-true, bit-false   one member more; the 1 and the 0
 -- Assumes nothing.
 use Rattle.std.specs.Prelude.{◌≡◌, List, ◌∷◌, Bool, true, false, ℕ, ◌+◌, ◌-◌, length}
 use Rattle.std.proofs.Common.{ap, arith}
