@@ -44,6 +44,7 @@ fn scale_part(slab: &mut [u8], dest: usize, n: usize, k: u8)
 }
 
 // The room gets the multiples of the n bytes from src on, unless it holds them: it holds those of the bytes from held on.
+#[tactic(auto, using(crate::specs::Placed::held_part, crate::proofs::Held::held_still))]
 fn hold(slab: &[u8], room: &mut [u8; octets::multiples::ROOM], src: usize, n: usize, held: usize)
     requires { (src + n ≤ length slab.now) × (n ≤ 1280) × Ready n held slab.now room.old }
     ensures { Multiples n (entry slab.now src) room.new × Blank room.new }

@@ -1,7 +1,9 @@
 -- `params::answer` meets its contract: the digits are the figures. Assumes nothing.
 use mathlib.Core.Path.{sym, ◌∙◌}
 use borrow.Author.Rules.{Fits-under}
-use Rattle.params.specs.Answers.{answer-found, answer_long}
+use Rattle.std.proofs.Common.{arith}
+use Rattle.params.specs.Answers.{answer_long}
+use Rattle.params.specs.Packed.{unpack}
 use Rattle.params.proofs.Packing.{front_small, packed_none, packed-some}
 use Rattle.params.proofs.answer.Goals as goal
 
@@ -12,4 +14,4 @@ pub overflow_add-l : goal.overflow_add-l
 overflow_add-l c = Fits-under _ _ 65_536 (front_small _ _ _ c.requires.l_small) tt
 
 pub returns : goal.returns
-returns c = sym (packed-some _ c.if-row-eq0.false ∙ answer_long _ c.if-l-le-MOST_ROWS.false)
+returns c = sym (packed-some _ c.if-row-eq0.false ∙ answer_long (unpack c.args.row) (omega arith))
