@@ -1,12 +1,12 @@
 -- What needs with no columns come to.
---   short_is, short_number   BadShape, and its number
+--   short_is, short_number   Err BadShape, and its number
 -- Assumes nothing.
-use Rattle.std.specs.Prelude.{◌≡◌, ℕ, ◌<◌}
+use Rattle.std.specs.Prelude.{◌≡◌, ℕ, ◌<◌, Err}
 use borrow.Author.Tests.{lt-leb}
-use Rattle.answers.specs.declared.Need.TheVariants.{BadShape}
-use Rattle.answers.specs.Rooms.{need_of, need_number, need_refusal}
+use Rattle.answers.specs.declared.Refusal.TheVariants.{BadShape}
+use Rattle.answers.specs.Rooms.{need_of, need_refusal}
 
-pub short_is : (m l : ℕ) → l < 1 → BadShape ≡ need_of m l
+pub short_is : (m l : ℕ) → l < 1 → Err BadShape ≡ need_of m l
 unfolding need_of
 short_is m l h = rw (lt-leb 1 l h)
 

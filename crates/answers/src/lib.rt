@@ -7,14 +7,14 @@ ghost use Rattle.answers.specs.Answers.{number_of, shown_of};
 ghost use Rattle.answers.specs.Rooms.{rooms_of, Needed};
 
 // The additions and multiplications of a phase.
-#[derive(Clone, Copy)]
+#[derive(Debug, Clone, Copy, PartialEq, Eq)]
 pub struct Counts {
     pub adds: usize,
     pub muls: usize,
 }
 
 // How many operations the list has, and the counts of each phase.
-#[derive(Clone, Copy)]
+#[derive(Debug, Clone, Copy, PartialEq, Eq)]
 pub struct Report {
     pub operations: usize,
     pub one: Counts,
@@ -24,10 +24,9 @@ pub struct Report {
     pub five: Counts,
 }
 
-// What a call answers.
-#[derive(Clone, Copy)]
-pub enum Answer {
-    Solved(Report),
+// Why a call is refused.
+#[derive(Debug, Clone, Copy, PartialEq, Eq)]
+pub enum Refusal {
     BadCount,
     BadShape,
     BadEntry,
@@ -37,8 +36,21 @@ pub enum Answer {
     Singular,
 }
 
+impl From<params::BadCount> for Refusal {
+    ghost use Rattle.answers.specs.declared.Refusal.{Refusal};
+
+    ghost from_gives = { λ _ e. e ≡ Refusal.BadCount };
+
+    fn from(_: params::BadCount) -> Refusal {
+        Refusal::BadCount
+    }
+}
+
+// What a call answers: the report of what it solved, or why it is refused.
+pub type Answer = Result<Report, Refusal>;
+
 // What the receiver shows for an answer.
-#[derive(Clone, Copy)]
+#[derive(Debug, Clone, Copy, PartialEq, Eq)]
 pub enum Display {
     Solved,
     BadCount,
@@ -50,7 +62,7 @@ pub enum Display {
 }
 
 // How many entries order, vector and each working slice have to hold, and how many bytes the working slices take in all.
-#[derive(Clone, Copy)]
+#[derive(Debug, Clone, Copy, PartialEq, Eq)]
 pub struct Rooms {
     pub order: usize,
     pub vector: usize,
@@ -66,26 +78,19 @@ pub struct Rooms {
     pub bytes: usize,
 }
 
-// What `needs` answers: the needs, or that m and l are out of bounds.
-#[derive(Clone, Copy)]
-pub enum Need {
-    Entries(Rooms),
-    BadShape,
-}
-
 // The number of an answer.
 pub fn number(a: Answer) -> usize
     ensures { result ≡ number_of a }
 {
     match a {
-        Answer::Solved(_) => 0,
-        Answer::BadCount => 1,
-        Answer::BadShape => 2,
-        Answer::BadEntry => 3,
-        Answer::NoRoom => 4,
-        Answer::ListFull => 5,
-        Answer::NoPivot => 6,
-        Answer::Singular => 7,
+        Ok(_) => 0,
+        Err(Refusal::BadCount) => 1,
+        Err(Refusal::BadShape) => 2,
+        Err(Refusal::BadEntry) => 3,
+        Err(Refusal::NoRoom) => 4,
+        Err(Refusal::ListFull) => 5,
+        Err(Refusal::NoPivot) => 6,
+        Err(Refusal::Singular) => 7,
     }
 }
 
@@ -94,32 +99,32 @@ pub fn shown(a: Answer) -> Display
     ensures { result ≡ shown_of a }
 {
     match a {
-        Answer::Solved(_) => Display::Solved,
-        Answer::BadCount => Display::BadCount,
-        Answer::BadShape => Display::BadShape,
-        Answer::BadEntry => Display::BadEntry,
-        Answer::NoRoom => Display::NoRoom,
-        Answer::ListFull => Display::ListFull,
-        Answer::NoPivot => Display::ShortOfRank,
-        Answer::Singular => Display::ShortOfRank,
+        Ok(_) => Display::Solved,
+        Err(Refusal::BadCount) => Display::BadCount,
+        Err(Refusal::BadShape) => Display::BadShape,
+        Err(Refusal::BadEntry) => Display::BadEntry,
+        Err(Refusal::NoRoom) => Display::NoRoom,
+        Err(Refusal::ListFull) => Display::ListFull,
+        Err(Refusal::NoPivot) => Display::ShortOfRank,
+        Err(Refusal::Singular) => Display::ShortOfRank,
     }
 }
 
 // The rooms for m rows and l columns, for any number of octet rows.
 #[tactic(auto, using(crate::proofs::Short::short_is, crate::proofs::Short::short_number))]
-pub fn needs(m: usize, l: usize) -> Need
+pub fn needs(m: usize, l: usize) -> Result<Rooms, Refusal>
     ensures { Needed m l result }
 {
     if l < 1 {
-        return Need::BadShape;
+        return Err(Refusal::BadShape);
     }
     if m < l {
-        return Need::BadShape;
+        return Err(Refusal::BadShape);
     }
     if bounds::MOST_ROWS < m {
-        return Need::BadShape;
+        return Err(Refusal::BadShape);
     }
-    Need::Entries(rooms_for(m, l))
+    Ok(rooms_for(m, l))
 }
 
 // The needs of order, vector and the working slices for m rows and l columns.

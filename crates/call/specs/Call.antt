@@ -1,15 +1,15 @@
 -- What a call answers and leaves, for every input.
 --   Octets, octets_in, rows_in   the octet rows of a call, or none; their entries; how many they are: H of the table, or 0
---   rows_of             what is lent as octet rows, as a caller says it: given or absent
+--   rows_of             the octet rows that a caller lends, or that it has none
 --   Working, Buffers, Outcome   the working slices; all lent buffers; an answer beside them
 --   working, buffers, outcome   one of each, made of its parts
 --   wiped, wiped_are   working slices that were cleared
 --   shaped, entered, roomy   the tests for 2, 3 and 4
 --   bitwise            every entry is 0 or 1: what the test for 3 asks of the rows before the octet rows, and of those after them
---   roomy_for           the test for 4, of lent buffers
+--   roomy_in, roomy_for   the test for 4, of the lengths of what is lent, and of lent buffers
 --   report_of, answer_of, left   what a run's answer reports, its answer, and the buffers after it
 --   counts_at           the additions and multiplications of one phase, by its place
---   named              the answer with a number: 0 Solved with its report, 5 ListFull, 6 NoPivot, else Singular
+--   named              the answer with a number: 0 Ok with its report, 5 ListFull, 6 NoPivot, else Singular
 --   ended              the answer of a run, beside the buffers after it
 --   shape_of            the shape of m rows, of which h are octet rows, by the sizes of the table
 --   told               what the defined run, plain, answers in a list room of so many operations
@@ -17,12 +17,10 @@
 --   counted            a call by what the table says of its count: it is checked, or the answer is 1 and nothing changes
 --   call_of             a call with K source symbols, M rows of T bytes, the binary matrix, the octet rows and the lent buffers
 -- Assumes nothing.
-use Rattle.std.specs.Prelude.{◌≡◌, Bool, true, false, cond, ◌&&◌, List, [], ◌∷◌, map, ℕ, ◌+◌, ◌*◌, leb, eqb, length, get_or, take, drop}
+use Rattle.std.specs.Prelude.{◌≡◌, Bool, true, false, cond, ◌&&◌, List, [], ◌∷◌, map, ℕ, ◌+◌, ◌*◌, leb, eqb, length, get_or, take, drop, Option, Some, None, Ok, Err}
 use Rattle.bounds.specs.Bounds.{most_rows, most_bytes, most_ops}
-use Rattle.params.specs.Params.{params_of}
+use Rattle.params.specs.Params.{params_of, Parameters}
 use Rattle.params.specs.declared.Sizes.{Sizes}
-use Rattle.params.specs.declared.Parameters.{Parameters}
-use Rattle.params.specs.declared.Parameters.TheVariants.{Found, BadCount as NoEntry}
 use Rattle.oplist.specs.Word.{packed}
 use Rattle.algebra.specs.Flat.{acts}
 use Rattle.phases.specs.System.{Shape, combined}
@@ -30,11 +28,10 @@ use Rattle.phases.specs.Run.{Answer as Told, answer, defined}
 use Rattle.answers.specs.declared.Counts.{Counts}
 use Rattle.answers.specs.declared.Report.{Report}
 use Rattle.answers.specs.declared.Rooms.{Rooms}
-use Rattle.answers.specs.declared.Answer.{Answer}
-use Rattle.answers.specs.declared.Answer.TheVariants.{Solved, BadCount, BadShape, BadEntry, NoRoom, ListFull, NoPivot, Singular}
+use Rattle.answers.specs.Answers.{Answer}
+use Rattle.answers.specs.declared.Refusal.TheVariants.{BadCount, BadShape, BadEntry, NoRoom, ListFull, NoPivot, Singular}
 use Rattle.answers.specs.Rooms.{rooms_of}
-use Rattle.call.specs.declared.OctetRows.{OctetRows}
-use Rattle.call.specs.declared.OctetRows.TheVariants.{Given, Absent}
+use Rattle.call.specs.declared.Lengths.{Lengths}
 use Rattle.call.specs.Over.{over, blank}
 
 pub data Octets : Type 0 where
@@ -45,10 +42,10 @@ abbrev pub octets_in : Octets → List ℕ
 octets_in (given xs) = xs
 octets_in none = []
 
--- what is lent as octet rows counts where the caller says that they are given
-unfoldable pub rows_of : OctetRows → List ℕ → Octets
-rows_of Given xs = given xs
-rows_of Absent xs = none
+-- the octet rows that a caller lends, or that it has none
+unfoldable pub rows_of : Option (List ℕ) → Octets
+rows_of (Some xs) = given xs
+rows_of None = none
 
 -- H of the table where octet rows are given, else 0
 abbrev pub rows_in : Octets → Sizes → ℕ
@@ -130,6 +127,10 @@ roomy r order vector work scratch columns rows ones degrees singles labels sizes
     leb r.order order && (leb r.vector vector && (leb r.work work && (leb r.scratch scratch && (leb r.columns columns && (leb r.rows rows
     && (leb r.ones ones && (leb r.degrees degrees && (leb r.singles singles && (leb r.labels labels && leb r.sizes sizes)))))))))
 
+-- the same of the lengths of what is lent
+abbrev pub roomy_in : Rooms → Lengths → Bool
+roomy_in r n = roomy r n.order n.vector n.work n.scratch n.columns n.rows n.ones n.degrees n.singles n.labels n.sizes
+
 abbrev pub roomy_for : (l m : ℕ) → Buffers → Bool
 roomy_for l m b =
     let w : Working = b.rooms in
@@ -144,9 +145,9 @@ abbrev pub report_of : Told → Report
 report_of a =
     record { operations = length a.list; one = counts_at a 0; two = counts_at a 1; three = counts_at a 2; four = counts_at a 3; five = counts_at a 4 }
 
--- 0 Solved, 5 ListFull, 6 NoPivot, 7 Singular
+-- 0 Ok, 5 ListFull, 6 NoPivot, 7 Singular
 abbrev pub named : ℕ → Report → Answer
-named k r = cond (eqb k 0) (Solved r) (cond (eqb k 5) ListFull (cond (eqb k 6) NoPivot Singular))
+named k r = cond (eqb k 0) (Ok r) (cond (eqb k 5) (Err ListFull) (cond (eqb k 6) (Err NoPivot) (Err Singular)))
 
 unfoldable pub answer_of : Told → Answer
 answer_of a = named a.number (report_of a)
@@ -175,13 +176,13 @@ checked g h m t bits octets b =
     (cond (entered g.l g.s h bits)
     (cond (roomy_for g.l m b)
     (ended t b (told (shape_of g h m) bits octets (length b.list)))
-    (outcome NoRoom b))
-    (outcome BadEntry b))
-    (outcome BadShape b)
+    (outcome (Err NoRoom) b))
+    (outcome (Err BadEntry) b))
+    (outcome (Err BadShape) b)
 
 abbrev pub counted : Parameters → (m t : ℕ) → List ℕ → Octets → Buffers → Outcome
-counted (Found g) m t bits o b = checked g (rows_in o g) m t bits (octets_in o) b
-counted NoEntry m t bits o b = outcome BadCount b
+counted (Ok g) m t bits o b = checked g (rows_in o g) m t bits (octets_in o) b
+counted (Err _) m t bits o b = outcome (Err BadCount) b
 
 -- K source symbols, M rows of T bytes, the binary matrix, the octet rows
 unfoldable pub call_of : (k m t : ℕ) → List ℕ → Octets → Buffers → Outcome

@@ -6,19 +6,17 @@
 --   Called          what `solve` promises of its outcome x
 --   call_met        the outcome of a call keeps the promise
 -- Assumes nothing.
-use Rattle.std.specs.Prelude.{◌≡◌, Bool, List, ltb}
+use Rattle.std.specs.Prelude.{◌≡◌, Bool, List, ltb, Ok, Err}
 use Rattle.std.proofs.Math.Path.{refl, ap}
 use Rattle.std.proofs.Common.{◌∙◌}
 use Rattle.std.proofs.Math.Bool.{true, false, cond}
 use Prim.Native.Nat.{ℕ}
 use Rattle.std.proofs.Math.ListN.{length}
-use Rattle.params.specs.Params.{params_of}
+use Rattle.params.specs.Params.{params_of, Parameters}
 use Rattle.params.specs.declared.Sizes.{Sizes}
-use Rattle.params.specs.declared.Parameters.{Parameters}
-use Rattle.params.specs.declared.Parameters.TheVariants.{Found, BadCount as NoEntry}
 use Rattle.phases.specs.System.{combined}
 use Rattle.phases.specs.Run.{Run, End, solved, no_pivot, singular, whole, defined, ListFull, ending, answer}
-use Rattle.answers.specs.declared.Answer.TheVariants.{BadShape, BadEntry, NoRoom}
+use Rattle.answers.specs.declared.Refusal.TheVariants.{BadShape, BadEntry, NoRoom}
 use Rattle.answers.specs.Answers.{number_of}
 use Rattle.call.specs.Call.{Octets, octets_in, rows_in, Buffers, Outcome, outcome, shaped, entered, roomy_for, answer_of, ended, shape_of, told, checked, counted, call_of}
 
@@ -45,8 +43,8 @@ checked_number g h m t bits octets b =
 
 -- 1 before them
 abbrev pub counted_number : Parameters → (m t : ℕ) → List ℕ → Octets → Buffers → ℕ
-counted_number (Found g) m t bits o b = checked_number g (rows_in o g) m t bits (octets_in o) b
-counted_number NoEntry m t bits o b = 1
+counted_number (Ok g) m t bits o b = checked_number g (rows_in o g) m t bits (octets_in o) b
+counted_number (Err _) m t bits o b = 1
 
 unfoldable pub call_number : (k m t : ℕ) → List ℕ → Octets → Buffers → ℕ
 call_number k m t bits o b = counted_number (params_of k) m t bits o b
@@ -62,7 +60,7 @@ module _ {k m t : ℕ} {bits : List ℕ} {o : Octets} {b : Buffers} {x : Outcome
     where
       tests : (p q s : Bool) (r : Run)
           → let room : ℕ = length b.list in
-          number_of (cond p (cond q (cond s (ended t b (answer room r)) (outcome NoRoom b)) (outcome BadEntry b)) (outcome BadShape b)).answer
+          number_of (cond p (cond q (cond s (ended t b (answer room r)) (outcome (Err NoRoom) b)) (outcome (Err BadEntry) b)) (outcome (Err BadShape) b)).answer
           ≡ cond p (cond q (cond s (answer room r).number 4) 3) 2
       tests true true true r = answer-number (length b.list) r
       tests true true false r = refl
@@ -70,8 +68,8 @@ module _ {k m t : ℕ} {bits : List ℕ} {o : Octets} {b : Buffers} {x : Outcome
       tests false q s r = refl
 
       by-table : (p : Parameters) → number_of (counted p m t bits o b).answer ≡ counted_number p m t bits o b
-      by-table NoEntry = refl
-      by-table (Found g) =
+      by-table (Err _) = refl
+      by-table (Ok g) =
           let z = shape_of g (rows_in o g) m in
           tests (shaped g.l (rows_in o g) m t (length b.list) (length bits) (length (octets_in o)) (length b.slab)) (entered g.l g.s (rows_in o g) bits)
           (roomy_for g.l m b) (defined z (combined z bits (octets_in o)) false)

@@ -2,14 +2,12 @@
 --   SameOutside      two binary matrices have one length, and are equal before the octet rows and after them
 --   call_ignores     a call with the one is the call with the other: its answer, and every byte that it leaves
 -- Assumes nothing.
-use Rattle.std.specs.Prelude.{◌≡◌, refl, false, ◌&&◌, length, take, drop}
+use Rattle.std.specs.Prelude.{◌≡◌, refl, false, ◌&&◌, length, take, drop, Ok, Err}
 use Rattle.std.proofs.Math.Path.{ap, ap₂}
 use mathlib.Core.List.{List}
 use Prim.Native.Nat.{ℕ, ◌+◌, ◌*◌}
-use Rattle.params.specs.Params.{params_of}
+use Rattle.params.specs.Params.{params_of, Parameters}
 use Rattle.params.specs.declared.Sizes.{Sizes}
-use Rattle.params.specs.declared.Parameters.{Parameters}
-use Rattle.params.specs.declared.Parameters.TheVariants.{Found, BadCount as NoEntry}
 use Rattle.phases.specs.Run.{answer, defined}
 use Rattle.phases.specs.Combined.{combined_ignores}
 use Rattle.call.specs.Call.{Octets, octets_in, rows_in, Buffers, bitwise, entered, shape_of, told, checked, counted, call_of}
@@ -34,10 +32,10 @@ module _ (g : Sizes) (h m t : ℕ) (bits bits' octets : List ℕ) (b : Buffers) 
   checked_ignores = rw (same.long, entered_same, told_same (length b.list))
 
 pub call_ignores : (k m t : ℕ) (bits bits' : List ℕ) (o : Octets) (b : Buffers)
-    → ((g : Sizes) → params_of k ≡ Found g → SameOutside g (rows_in o g) bits bits') → call_of k m t bits o b ≡ call_of k m t bits' o b
+    → ((g : Sizes) → params_of k ≡ Ok g → SameOutside g (rows_in o g) bits bits') → call_of k m t bits o b ≡ call_of k m t bits' o b
 unfolding call_of
 call_ignores k m t bits bits' o b = by-table (params_of k)
   where
-    by-table : (p : Parameters) → ((g : Sizes) → p ≡ Found g → SameOutside g (rows_in o g) bits bits') → counted p m t bits o b ≡ counted p m t bits' o b
-    by-table (Found g) same = checked_ignores g (rows_in o g) m t bits bits' (octets_in o) b (same g refl)
-    by-table NoEntry same = refl
+    by-table : (p : Parameters) → ((g : Sizes) → p ≡ Ok g → SameOutside g (rows_in o g) bits bits') → counted p m t bits o b ≡ counted p m t bits' o b
+    by-table (Ok g) same = checked_ignores g (rows_in o g) m t bits bits' (octets_in o) b (same g refl)
+    by-table (Err _) same = refl

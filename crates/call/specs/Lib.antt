@@ -3,3 +3,4 @@ pub mod Call
 pub mod Called
 pub mod Ignored
 pub mod Tests
+pub mod Space

@@ -5,10 +5,11 @@
 --   over_same            only the length of l counts
 --   take-over            its front is xs, where xs has room
 --   after-over, at-over  zeros after xs; an entry of xs, or 0 past its end
+--   replicate-blank      zeros, as many as l has entries
 --   keep n l             the first n entries of l, then zeros
---   take-keep, after-keep   its front is that of l; zeros after that
+--   take-keep, after-keep, keep_parts   its front is that of l; zeros after that; so it is those two
 -- Assumes nothing.
-use Rattle.std.specs.Prelude.{◌≡◌, refl, List, [], ◌∷◌, ℕ, zero, suc, ◌≤◌, length, get_or, take}
+use Rattle.std.specs.Prelude.{◌≡◌, refl, List, [], ◌∷◌, ℕ, zero, suc, ◌≤◌, ◌+◌, ◌++◌, length, get_or, take, replicate}
 use Rattle.std.proofs.Common.{sym, ap, ◌∙◌, arith, length-take-le}
 
 unfoldable pub over : List ℕ → List ℕ → List ℕ
@@ -57,8 +58,19 @@ at-over (x ∷ xs) [] i h = absurd (omega arith)
 at-over (x ∷ xs) (y ∷ l) zero h = refl
 at-over (x ∷ xs) (y ∷ l) (suc i) h = at-over xs l i (omega arith)
 
+pub replicate-blank : (l : List ℕ) → replicate (length l) 0 ≡ blank l
+unfolding over
+replicate-blank [] = refl
+replicate-blank (y ∷ l) = ap (λ (q : List ℕ). 0 ∷ q) (replicate-blank l)
+
 abbrev pub keep : ℕ → List ℕ → List ℕ
 keep n l = over (take n l) l
+
+pub keep_parts : (n k : ℕ) (l : List ℕ) → length l ≡ n + k → take n l ++ replicate k 0 ≡ keep n l
+unfolding over
+keep_parts zero k l e = ap (λ (m : ℕ). replicate m 0) (omega arith) ∙ replicate-blank l
+keep_parts (suc n) k [] e = absurd (omega arith)
+keep_parts (suc n) k (x ∷ l) e = ap (λ (q : List ℕ). x ∷ q) (keep_parts n k l (omega arith))
 
 module _ (n : ℕ) (l : List ℕ) (h : n ≤ length l) where
   taken : length (take n l) ≡ n

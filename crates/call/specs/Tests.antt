@@ -1,12 +1,11 @@
 -- The tests of a call, as the code makes them.
 --   Sofar            the entries before k are 0 or 1 or not: what the test knows at its turn
 --   sofar_start, sofar_next, sofar_bad, sofar_end   it begins, passes such an entry, passes another, is over
---   front_fits, back_fits   what stands before the octet rows, and after them, lies in the matrix
 --   entered-front, entered-back   the test of both decides
 -- Assumes nothing.
 use Rattle.std.specs.Prelude.{◌≡◌, refl, Bool, ◌&&◌, ℕ, ◌+◌, ◌*◌, ◌-◌, ◌≤◌, ◌<◌, leb, length, get_or, take, drop}
 use Rattle.std.proofs.Math.Path.{sym, ap}
-use Rattle.std.proofs.Common.{◌∙◌, mul-le-mul_right, le-leb, drop_of_length-le}
+use Rattle.std.proofs.Common.{◌∙◌, le-leb, drop_of_length-le}
 use Rattle.std.proofs.Math.Bool.{true, false}
 use mathlib.Core.List.{List}
 use native.Mathlib.Omega.{arith}
@@ -46,25 +45,16 @@ module _ {xs : List ℕ} {fine : Bool} {k : ℕ} (s : Sofar xs fine k) where
   unfolding bitwise
   sofar_end h = sym (s.is ∙ ap (λ (l : List ℕ). fine && bitwise l) (drop_of_length-le xs h) ∙ and_true fine)
 
-module _ (m l s h : ℕ) (bits : List ℕ) (size : length bits ≡ m * l) (rows : s + h ≤ m) where
-  pub front_fits : s * l ≤ length bits
-  front_fits = let k : s ≤ m = omega arith in omega (arith, mul-le-mul_right l k)
-
-  pub back_fits : (s + h) * l ≤ length bits
-  back_fits = omega (arith, mul-le-mul_right l rows)
-
 module _ (l s h : ℕ) (bits : List ℕ) where
-  pub entered-front : {b : Bool} → b ≡ bitwise (take (s * l - 0) (drop 0 bits)) → b ≡ false → false ≡ entered l s h bits
+  pub entered-front : {b : Bool} → b ≡ bitwise (take (s * l) bits) → b ≡ false → false ≡ entered l s h bits
   unfolding entered
   entered-front {b} e f =
-      let z : s * l - 0 ≡ s * l = omega arith in
-      let g : bitwise (take (s * l) bits) ≡ false = ap (λ (k : ℕ). bitwise (take k bits)) (sym z) ∙ sym e ∙ f in
+      let g : bitwise (take (s * l) bits) ≡ false = sym e ∙ f in
       rw g
 
-  pub entered-back : {b d : Bool} → b ≡ bitwise (take (s * l - 0) (drop 0 bits)) → b ≡ true → d ≡ bitwise (take (length bits - (s + h) * l) (drop ((s + h) * l) bits)) → d ≡ entered l s h bits
+  pub entered-back : {b d : Bool} → b ≡ bitwise (take (s * l) bits) → b ≡ true → d ≡ bitwise (take (length bits - (s + h) * l) (drop ((s + h) * l) bits)) → d ≡ entered l s h bits
   unfolding entered
   entered-back {b} {d} e f i =
-      let z : s * l - 0 ≡ s * l = omega arith in
-      let g : bitwise (take (s * l) bits) ≡ true = ap (λ (k : ℕ). bitwise (take k bits)) (sym z) ∙ sym e ∙ f in
+      let g : bitwise (take (s * l) bits) ≡ true = sym e ∙ f in
       let q = take_all (length bits - (s + h) * l) (drop ((s + h) * l) bits) (rw length-drop (omega arith)) in
       rw g (i ∙ ap bitwise q)

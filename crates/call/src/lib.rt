@@ -4,19 +4,35 @@
 pub mod checks;
 pub mod clear;
 
-// Whether a system's octet rows are given. Where they are not, every row is binary.
-#[derive(Clone, Copy)]
-pub enum OctetRows {
-    Given,
-    Absent,
+// The lengths of what is lent to a call, but for the binary matrix.
+#[derive(Debug, Clone, Copy, PartialEq, Eq)]
+pub struct Lengths {
+    pub octets: usize,
+    pub slab: usize,
+    pub list: usize,
+    pub order: usize,
+    pub vector: usize,
+    pub work: usize,
+    pub scratch: usize,
+    pub columns: usize,
+    pub rows: usize,
+    pub ones: usize,
+    pub degrees: usize,
+    pub singles: usize,
+    pub labels: usize,
+    pub sizes: usize,
 }
 
-// m rows of l columns, of which h from row s on are octet rows, and w columns that phase one starts from.
-#[derive(Clone, Copy)]
-pub struct Shape {
-    pub m: usize,
-    pub l: usize,
-    pub s: usize,
-    pub h: usize,
-    pub w: usize,
+// The working slices of a call.
+#[derive(Drop)]
+pub struct Workspace<'a> {
+    pub work: &'a mut [u8],
+    pub scratch: &'a mut [u8],
+    pub columns: &'a mut [usize],
+    pub rows: &'a mut [usize],
+    pub ones: &'a mut [usize],
+    pub degrees: &'a mut [usize],
+    pub singles: &'a mut [usize],
+    pub labels: &'a mut [usize],
+    pub sizes: &'a mut [usize],
 }

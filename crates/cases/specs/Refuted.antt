@@ -8,7 +8,7 @@
 -- Assumes nothing.
 use Rattle.std.proofs.Math.Path.{◌≡◌, refl, sym, ap}
 use Rattle.std.proofs.Common.{◌∙◌, arith, lit≤}
-use Rattle.std.specs.Prelude.{false, ℕ, length, replicate}
+use Rattle.std.specs.Prelude.{false, ℕ, length, replicate, Err}
 use mathlib.Core.List.{List, [], ◌∷◌, map}
 use Rattle.std.proofs.Math.ListN.{get_or}
 use Rattle.oplist.specs.declared.Op.{Op}
@@ -17,8 +17,8 @@ use Rattle.oplist.specs.Word.{packed}
 use Rattle.phases.specs.System.{combined}
 use Rattle.phases.specs.Run.{defined, Solved, Singular, no_counts}
 use Rattle.answers.specs.declared.Report.{Report}
-use Rattle.answers.specs.declared.Answer.{Answer}
-use Rattle.answers.specs.declared.Answer.TheVariants.{NoPivot}
+use Rattle.answers.specs.Answers.{Answer}
+use Rattle.answers.specs.declared.Refusal.TheVariants.{NoPivot}
 use Rattle.answers.specs.Answers.{number_of, report_in}
 use Rattle.call.specs.Over.{over, blank}
 use Rattle.call.specs.Call.{Octets, Buffers, buffers, working, Outcome, bitwise, entered, roomy, answer_of, told, ended, call_of}
@@ -48,7 +48,7 @@ abbrev pub Always : Solver → (List ℕ → List ℕ → Buffers → Outcome �
 Always f P = (t : ℕ) (bits octs : List ℕ) (b : Buffers) → Fits bits octs → Lent t b → P bits octs b (f 10 27 t bits (Octets.given octs) b)
 
 pub record Refuted (f : Solver) : Type 0 where
-  pub not_always_refused : Always f (λ bits octs b x. x.answer ≡ NoPivot) → ⊥
+  pub not_always_refused : Always f (λ bits octs b x. x.answer ≡ Err NoPivot) → ⊥
   pub not-one-answer : (a : Answer) → Always f (λ bits octs b x. x.answer ≡ a) → ⊥
   pub not-one_report : (r : Report) → Always f (λ bits octs b x. report_in x.answer ≡ r) → ⊥
   pub not-without_list : Always f (λ bits octs b x. x.buffers.list ≡ blank b.list) → ⊥

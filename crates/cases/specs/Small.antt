@@ -14,12 +14,12 @@
 --   Gets       in such buffers, whose list room is as said, a call with a binary matrix and octet rows ends with an answer
 --   room-any, room-one, room-none   a list room of any size, for an operation at least, for none
 --   solve      the defined answer to a binary matrix and octet rows, plain or wide, with room for so many operations
---   stored     the bytes of a stored list with one operation, MulAssign 7 by 142
+--   stored, stored_says   the bytes of a stored list with one operation, MulAssign 7 by 142, and no order; what they say of it
 --   text       the bytes of the lines `rows 27 columns 27 operations 1`, `mul 7 142` and `order none`
 --   Small, small   what calls with them get, some with an entry changed, some without room; two refused calls; facts of octets; the stored list,
 --              written, read, and shown as that text
 -- Assumes nothing.
-use Rattle.std.specs.Prelude.{◌≡◌, refl, Bool, true, false, cond, List, [], ◌∷◌, ◌++◌, map, ℕ, ◌+◌, ◌*◌, ◌≤◌, eqb, ltb, length, drop, set, replicate}
+use Rattle.std.specs.Prelude.{◌≡◌, refl, Bool, true, false, cond, List, [], ◌∷◌, ◌++◌, map, ℕ, ◌+◌, ◌*◌, ◌≤◌, eqb, ltb, length, drop, set, replicate, Ok, Err, Result}
 use Rattle.std.proofs.Common.{sym, ◌∙◌, arith, le-leb, le-ltb, lt-ltb, eq-eqb}
 use Rattle.std.proofs.Math.Path.{ap}
 use Rattle.std.proofs.lemmas.List.Edits.{sets-eq}
@@ -38,20 +38,19 @@ use Rattle.oplist.specs.Listed.{ops_of}
 use Rattle.oplist.specs.Word.{packed, meaning}
 use Rattle.params.specs.Params.{params_of}
 use Rattle.params.specs.declared.Sizes.{Sizes}
-use Rattle.params.specs.declared.Parameters.TheVariants.{Found}
 use Rattle.params.specs.Answers.{at_zero}
 use Rattle.params.specs.Examples as params
 use Rattle.stored.specs.Bytes.{padded}
 use Rattle.stored.specs.Form.{form_of, ops_bytes, words_at, unused_at, unused_fine, form_fine}
 use Rattle.stored.specs.Answers.{judged, judged_by, Got, got, read_of}
-use Rattle.stored.specs.declared.Reading.{Reading}
-use Rattle.stored.specs.declared.Reading.TheVariants.{Kept}
+use Rattle.stored.specs.declared.Kept.{Kept}
+use Rattle.stored.specs.declared.Refusal.{Refusal}
 use Rattle.shown.specs.Text.{decimal, op_text, ops_text, order_text, shape_text, list_text, answer_text}
 use Rattle.shown.specs.Put.{byte}
 use Rattle.shown.specs.Filled.{screen, showing, same_screen}
 use Rattle.phases.specs.System.{Shape, range, combined}
 use Rattle.phases.specs.One.{phase_one}
-use Rattle.answers.specs.declared.Answer.TheVariants.{BadCount, BadShape}
+use Rattle.answers.specs.declared.Refusal.TheVariants.{BadCount, BadShape}
 use Rattle.call.specs.Call.{Octets, Buffers, outcome, shaped, bitwise, entered, roomy_for, shape_of, told, ended, checked, call_of}
 use Rattle.phases.specs.Run.{Run, whole, solved, no_pivot, singular, defined, ending, answer, Answer, Solved, ListFull, NoPivot, Singular, no_counts}
 
@@ -116,6 +115,9 @@ block_octets = flat (0 ∷ range 18 9)
 abbrev pub stored : List ℕ
 stored = 0 ∷ 0 ∷ 0 ∷ 14 ∷ 1 ∷ 0 ∷ 27 ∷ 0 ∷ 27 ∷ 0 ∷ 0 ∷ 0 ∷ 1 ∷ 2 ∷ 7 ∷ 0 ∷ 142 ∷ 0 ∷ []
 
+abbrev pub stored_says : Kept
+stored_says = record { rows = 27; columns = 27; operations = 1; ordered = false }
+
 abbrev pub text : List ℕ
 text =
     114 ∷ 111 ∷ 119 ∷ 115 ∷ 32 ∷ 50 ∷ 55 ∷ 32 ∷ 99 ∷ 111 ∷ 108 ∷ 117 ∷ 109 ∷ 110 ∷ 115 ∷ 32 ∷ 50 ∷ 55 ∷ 32 ∷ 111 ∷ 112 ∷ 101 ∷ 114 ∷ 97 ∷ 116 ∷ 105 ∷ 111 ∷ 110 ∷ 115 ∷ 32 ∷ 49 ∷ 10 ∷
@@ -124,7 +126,7 @@ text =
 
 -- what a call with each system gets; with no room, what was recorded does not fit; a call with no symbols, or with too few rows, is refused and changes nothing
 pub record Small : Type 0 where
-  pub ten-is : (g : Sizes) → params_of 10 ≡ Found g → shape_of g g.h 27 ≡ ten
+  pub ten-is : (g : Sizes) → params_of 10 ≡ Ok g → shape_of g g.h 27 ≡ ten
   pub empty_list : Gets room-any Q Q_octets (Solved [] usual no_counts no_counts)
   pub one_scaling : Gets room-one Q (with 0 17 2 Q_octets) (Solved (MulAssign 7 142 ∷ []) usual no_counts (0 ∷ 1 ∷ 0 ∷ 0 ∷ 0 ∷ []))
   pub scaling_first : (defined ten (combined ten Q (with 0 17 2 Q_octets)) false).one ≡ []
@@ -135,11 +137,11 @@ pub record Small : Type 0 where
   pub no_room_scaling : Gets room-none Q (with 0 17 2 Q_octets) ListFull
   pub no_room_addition : Gets room-none (with 0 17 1 Q) Q_octets ListFull
   pub no_room_fma : Gets room-none Q (with 0 0 3 Q_octets) ListFull
-  pub no_count : (m t : ℕ) (bits : List ℕ) (o : Octets) (b : Buffers) → call_of 0 m t bits o b ≡ outcome BadCount b
-  pub too_few_rows : (t : ℕ) (bits : List ℕ) (o : Octets) (b : Buffers) → call_of 10 26 t bits o b ≡ outcome BadShape b
+  pub no_count : (m t : ℕ) (bits : List ℕ) (o : Octets) (b : Buffers) → call_of 0 m t bits o b ≡ outcome (Err BadCount) b
+  pub too_few_rows : (t : ℕ) (bits : List ℕ) (o : Octets) (b : Buffers) → call_of 10 26 t bits o b ≡ outcome (Err BadShape) b
   pub octet_facts : (mul 2 128 ≡ 29) × (mul 3 3 ≡ 5) × (quotient 1 2 ≡ 142)
   pub stored_form : form_of 27 27 (MulAssign 7 142 ∷ []) false [] ≡ stored
-  pub stored_read : (list order : List ℕ) → 1 ≤ length list → read_of stored list order ≡ got (Kept 27 27 1 false) (padded (packed (MulAssign 7 142) ∷ []) (length list)) (padded [] (length order))
+  pub stored_read : (list order : List ℕ) → 1 ≤ length list → read_of stored list order ≡ got (Ok stored_says) (padded (packed (MulAssign 7 142) ∷ []) (length list)) (padded [] (length order))
   pub stored_shown : (list order out : List ℕ) → 1 ≤ length list → 53 ≤ length out
       → showing stored list order out ≡ screen (log (text ++ drop 53 out) 53) (padded (packed (MulAssign 7 142) ∷ []) (length list)) (padded [] (length order))
   pub block_refused : Gets room-any block block_octets NoPivot
@@ -187,11 +189,11 @@ block_goes_on : solve 1000 true block block_octets ≡ Solved [] (7 ∷ range 0 
 unfolding entry_at add times product rest mul squares inverse for_to up for_way adds muls
 block_goes_on = refl
 
-no_symbols : (m t : ℕ) (bits : List ℕ) (o : Octets) (b : Buffers) → call_of 0 m t bits o b ≡ outcome BadCount b
+no_symbols : (m t : ℕ) (bits : List ℕ) (o : Octets) (b : Buffers) → call_of 0 m t bits o b ≡ outcome (Err BadCount) b
 unfolding call_of
 no_symbols m t bits o b = rw (at_zero 0 refl)
 
-few_rows : (t : ℕ) (bits : List ℕ) (o : Octets) (b : Buffers) → call_of 10 26 t bits o b ≡ outcome BadShape b
+few_rows : (t : ℕ) (bits : List ℕ) (o : Octets) (b : Buffers) → call_of 10 26 t bits o b ≡ outcome (Err BadShape) b
 unfolding call_of checked shaped
 few_rows t bits o b = rw params.ten
 
@@ -199,15 +201,15 @@ form_is : form_of 27 27 (MulAssign 7 142 ∷ []) false [] ≡ stored
 unfolding form_of ops_bytes
 form_is = refl
 
-kept-is : (n k : ℕ) → 1 ≤ n → judged stored n k ≡ Kept 27 27 1 false
+kept-is : (n k : ℕ) → 1 ≤ n → judged stored n k ≡ Ok stored_says
 unfolding judged judged_by form_fine unused_fine unused_at words_at shape_fine list_fine order_fine op_fine meaning
 kept-is n k h = rw (le-leb 1 n h, le-leb 0 k (omega arith))
 
-read_is : (list order : List ℕ) → 1 ≤ length list → read_of stored list order ≡ got (Kept 27 27 1 false) (padded (packed (MulAssign 7 142) ∷ []) (length list)) (padded [] (length order))
+read_is : (list order : List ℕ) → 1 ≤ length list → read_of stored list order ≡ got (Ok stored_says) (padded (packed (MulAssign 7 142) ∷ []) (length list)) (padded [] (length order))
 unfolding read_of words_at packed
 read_is list order h = rw (kept-is (length list) (length order) h)
 
-text-is : answer_text (Kept 27 27 1 false) stored ≡ text
+text-is : answer_text (Ok stored_says) stored ≡ text
 unfolding list_text shape_text ops_text op_text order_text decimal ops_of words_at meaning
 text-is = refl
 
@@ -217,12 +219,12 @@ unfolding showing
 shown_is list order out h k =
     let r = read_is list order h in
     same_screen
-    (ap (λ (a : Reading). puts byte (log out 0) (answer_text a stored)) (kept-is (length list) (length order) h)
+    (ap (λ (a : Result Kept Refusal). puts byte (log out 0) (answer_text a stored)) (kept-is (length list) (length order) h)
     ∙ ap (puts byte (log out 0)) text-is ∙ puts_fit byte text out 0 k ∙ ap (λ (l : List ℕ). log l 53) (sets-eq text out 0 k))
     (ap (λ (g : Got). g.list) r) (ap (λ (g : Got). g.order) r)
 
-ten-shape : (g : Sizes) → params_of 10 ≡ Found g → shape_of g g.h 27 ≡ ten
-ten-shape g e = let z : Found g ≡ Found _ = sym e ∙ params.ten in cc
+ten-shape : (g : Sizes) → params_of 10 ≡ Ok g → shape_of g g.h 27 ≡ ten
+ten-shape g e = let z : Ok g ≡ Ok _ = sym e ∙ params.ten in cc
 
 abbrev pub Fits : List ℕ → List ℕ → Type 0
 Fits bits octs = (length bits ≡ 729) × (length octs ≡ 270) × (entered 27 7 10 bits ≡ true)

@@ -4,12 +4,11 @@
 --   listed-one       two outcomes that meet it are equal
 --   listed-none, listed_then   no operation; one list after another
 --   Clearing         a loop over the rows ys, of which k are done
---   clear-start, clear_none, clear_next, clear-one, clear_end   it begins, passes a zero, records a multiple, or the row itself, is over
+--   clear_none, clear_next, clear-one, clear_end   it passes a zero, records a multiple, or the row itself, is over
 --   bit-one, bit-none   a binary entry by the code's test: it is 1 where the test holds, else 0
 --   Multiples        the same loop over the octet rows
---   octet_start, octet_none, octet_next, octet_end   the same for it
+--   octet_none, octet_next, octet_end   the same for it
 --   get_or-range       the octet rows by place: the number at place j of those from a on is a + j
---   octet_within     the entry of an octet row in a column lies within the octet rows' list
 --   outside          a row that may be chosen is no octet row
 --   clears-append    the additions for two lists of rows are those for the first, then those for the second
 --   cleared          binary rows, then octet rows: together the column is cleared as phase one says
@@ -21,7 +20,7 @@ use mathlib.Core.List.{List, [], ◌∷◌, ◌++◌}
 use Rattle.std.proofs.Math.ListN.{length}
 use Rattle.std.proofs.lemmas.Bool.{eqb-false}
 use Rattle.oplist.specs.Multiple.{multiple}
-use Rattle.loops.specs.Part.{drop-next, row_within}
+use Rattle.loops.specs.Part.{drop-next}
 use Rattle.loops.specs.Entry.{entry_at, entry_within}
 use Rattle.loops.specs.Room.{notes, notes-append}
 use Rattle.oplist.specs.declared.Op.{Op}
@@ -69,9 +68,6 @@ pub record Clearing (f : ℕ → ℕ) (x : ℕ) (ys : List ℕ) (g₀ : Book) (k
   pub room : length g.words ≡ length g₀.words
   pub left : notes note g (clears f x (drop k ys)) ≡ notes note g₀ (clears f x ys)
 
-pub clear-start : {f : ℕ → ℕ} {x : ℕ} {ys : List ℕ} {g : Book} → Fair g → Clearing f x ys g 0 g
-clear-start h = record { within = omega arith; fair = h; room = refl; left = refl }
-
 module _ {f : ℕ → ℕ} {x : ℕ} {ys : List ℕ} {g₀ g : Book} {k : ℕ} (h : Clearing f x ys g₀ k g) where
   turn : k < length ys → clears f x (drop k ys) ≡ entry (f (get_or ys k 0)) (get_or ys k 0) x (clears f x (drop (k + 1) ys))
   turn l = ap (clears f x) (drop-next ys k l)
@@ -116,10 +112,6 @@ pub bit-none : (l : ℕ) (m : List ℕ) (y q : ℕ) → entry_at l m y q ≤ 1 �
 unfolding bit
 bit-none l m y q h e = let d : (entry_at l m y q ≡ 1 → ⊥) = eqb-false (entry_at l m y q) 1 e in omega arith
 
--- the octet rows by place
-pub octet_within : {h l n j q : ℕ} → h * l ≤ n → j < h → q < l → j * l + q < n
-octet_within {h} {l} {n} {j} {q} f i k = omega (arith, row_within l h j i)
-
 -- the loop over the octet rows: row s + j is octet row j
 octet_here : (l s : ℕ) (octets : List ℕ) (q h j : ℕ) → q < l → j < h → entry_at l octets (get_or (range s h) j 0 - s) q ≡ get_or octets (j * l + q) 0
 octet_here l s octets q h j k i =
@@ -129,9 +121,6 @@ octet_here l s octets q h j k i =
 pub record Multiples (l s : ℕ) (octets : List ℕ) (q x h : ℕ) (g₀ : Book) (j : ℕ) (g : Book) : Type 0 where
   pub column : q < l
   pub inv : Clearing (λ y. entry_at l octets (y - s) q) x (range s h) g₀ j g
-
-pub octet_start : {l s q x h : ℕ} {octets : List ℕ} {g : Book} → q < l → Fair g → Multiples l s octets q x h g 0 g
-octet_start k f = record { column = k; inv = clear-start f }
 
 module _ {l s q x h j : ℕ} {octets : List ℕ} {g₀ g : Book} (c : Multiples l s octets q x h g₀ j g) where
   pub octet_none : j < h → get_or octets (j * l + q) 0 ≡ 0 → Multiples l s octets q x h g₀ (j + 1) g

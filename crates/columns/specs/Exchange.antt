@@ -1,11 +1,14 @@
 -- Two places of a list exchanged, and what that makes of the rows and of the columns.
 --   swapped i j d, length-swapped   d with its entries at places i and j exchanged, and as long
+--   swapped-is        what the library's `swap` leaves
 --   is x              the test that finds x
 --   brought           the row x, exchanged with the first, stands before those that stay eligible
 --   exchanged         the first column that passes, exchanged with the column a that stands before them
 --   unfound           where none passes, nothing is exchanged
 -- Assumes nothing.
 use Rattle.std.specs.Prelude.{◌≡◌, Bool, eqb}
+use Rattle.std.specs.List.{swap}
+use Rattle.std.proofs.lemmas.Grind.{get_or_default_zero}
 use Rattle.std.proofs.Math.Path.{refl}
 use Rattle.std.proofs.Common.{sym, ap, ◌∙◌, inl, inr, arith, length-set, eqb-true}
 use mathlib.Core.List.{List, [], ◌∷◌, ◌++◌}
@@ -23,6 +26,11 @@ swapped i j d = set (set d i (get_or d j 0)) j (get_or d i 0)
 pub length-swapped : (i j : ℕ) (d : List ℕ) → length (swapped i j d) ≡ length d
 unfolding swapped
 length-swapped i j d = length-set (set d i (get_or d j 0)) j (get_or d i 0) ∙ length-set d i (get_or d j 0)
+
+pub swapped-is : (d : List ℕ) (i j : ℕ) → i < length d → j < length d → swap d i j ≡ swapped i j d
+unfolding swapped
+swapped-is [] i j h k = refl
+swapped-is (a ∷ d) i j h k = rw (get_or_default_zero (a ∷ d) i a h, get_or_default_zero (a ∷ d) j a k) refl
 
 -- the test that finds row x
 abbrev pub is : ℕ → ℕ → Bool

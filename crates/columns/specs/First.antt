@@ -1,63 +1,50 @@
 -- The first member of a list that passes a test, by its place: what a search from the front finds.
 --   first_at p l       the place of the first member of l that passes p, the length of l if none does
---   Seeking           where such a search stands at place k
---   seek_start, seek_next, seek_found, seek_end   it begins, goes on, has found one, has found none
+--   first-position    it is the library's `position_or_len`
+--   first_found, first_some, first_missing   it is the place that `position` finds, and beyond the list where `position` finds none
 --   first-filter, first-none, head-filter         the members that pass begin with it
---   first_part        in a part of m entries it is at most m
 --   first_in          it is within the list if a member passes
 -- Assumes nothing.
-use Rattle.std.specs.Prelude.{◌≡◌, Bool, take, drop}
+use Rattle.std.specs.Prelude.{◌≡◌, Bool, drop, ltb, position, Some, None, IsSome}
+use Rattle.std.specs.List.{position_or_len}
+use Rattle.std.proofs.lemmas.List.Recursion.{is_position_or_len}
 use Rattle.std.proofs.Math.Path.{refl}
-use Rattle.std.proofs.Common.{ap, ◌∙◌, inl, inr, length-drop, length-take-le}
+use Rattle.std.proofs.Common.{sym, ap, ◌∙◌, inl, inr}
+use borrow.Author.Tests.{ltb-true, ltb-false, lt-ltb}
 use mathlib.Core.List.{List, [], ◌∷◌}
 use Rattle.std.proofs.Math.Bool.{true, false, cond}
-use Prim.Native.Nat.{ℕ, suc, ◌+◌, ◌≤◌, ◌<◌}
+use Prim.Native.Nat.{ℕ, suc, ◌≤◌, ◌<◌}
 use native.Mathlib.Omega.{arith}
 use Rattle.std.proofs.Math.ListN.{length, get_or}
-use Rattle.loops.specs.Part.{drop-next}
 use Rattle.rule.specs.Lists.{In, filter, keep, head}
 use Rattle.rule.specs.Sets.{tf}
-use Rattle.grid.specs.Grid.{gone}
 
 unfoldable pub first_at : (ℕ → Bool) → List ℕ → ℕ
 first_at p [] = 0
 first_at p (a ∷ l) = cond (p a) 0 (suc (first_at p l))
 
--- no member before place k passes
-pub record Seeking (p : ℕ → Bool) (l : List ℕ) (k : ℕ) : Type 0 where
-  pub within : k ≤ length l
-  pub left : k + first_at p (drop k l) ≡ first_at p l
-
-pub seek_start : {p : ℕ → Bool} {l : List ℕ} → Seeking p l 0
-seek_start = record { within = omega arith; left = omega arith }
-
-module _ {p : ℕ → Bool} {l : List ℕ} {k : ℕ} (s : Seeking p l k) where
-  pub seek_next : k < length l → p (get_or l k 0) ≡ false → Seeking p l (k + 1)
-  unfolding first_at
-  seek_next h e =
-      let f : first_at p (drop k l) ≡ suc (first_at p (drop (k + 1) l)) = rw (drop-next l k h, e) refl in
-      record { within = omega arith; left = omega (arith, s.left) }
-
-  pub seek_found : k < length l → p (get_or l k 0) ≡ true → k ≡ first_at p l
-  unfolding first_at
-  seek_found h e = let f : first_at p (drop k l) ≡ 0 = rw (drop-next l k h, e) refl in omega (arith, s.left)
-
-  pub seek_end : length l ≤ k → k ≡ first_at p l
-  unfolding first_at
-  seek_end h = let f : first_at p (drop k l) ≡ 0 = rw (gone l k h) refl in omega (arith, s.left)
-
 module _ (p : ℕ → Bool) where
-  first_upto : (l : List ℕ) → first_at p l ≤ length l
+  pub first-position : (l : List ℕ) → first_at p l ≡ position_or_len p l
   unfolding first_at
-  first_upto [] = omega arith
-  first_upto (a ∷ l) = go (p a) (first_upto l)
-    where
-      go : (b : Bool) → first_at p l ≤ length l → cond b 0 (suc (first_at p l)) ≤ suc (length l)
-      go true i = omega arith
-      go false i = omega arith
+  first-position l = is_position_or_len (first_at p) p refl (λ x xs. ap (cond (p x) 0) (omega arith)) l
 
-  pub first_part : (a m : ℕ) (v : List ℕ) → a + m ≤ length v → first_at p (take m (drop a v)) ≤ m
-  first_part a m v h = omega (arith, first_upto (take m (drop a v)), length-take-le m (drop a v) (omega (arith, length-drop a v)))
+  pub first_found : (l : List ℕ) (k : ℕ) → Some k ≡ position p l → (k ≡ first_at p l) × (k < length l)
+  first_found l k e = go (ltb (position_or_len p l) (length l)) refl e
+    where
+      go : (b : Bool) → ltb (position_or_len p l) (length l) ≡ b → Some k ≡ cond b (Some (position_or_len p l)) None → (k ≡ first_at p l) × (k < length l)
+      go true t e = let i : k ≡ position_or_len p l = cc in (i ∙ sym (first-position l), omega (arith, ltb-true (position_or_len p l) (length l) t))
+      go false t e = absurd (cc)
+
+  pub first_some : (l : List ℕ) → first_at p l < length l → IsSome (position p l)
+  first_some l h =
+      let t : ltb (position_or_len p l) (length l) ≡ true = lt-ltb (position_or_len p l) (length l) (omega (arith, first-position l)) in rw t
+
+  pub first_missing : (l : List ℕ) → None ≡ position p l → length l ≤ first_at p l
+  first_missing l e = go (ltb (position_or_len p l) (length l)) refl e
+    where
+      go : (b : Bool) → ltb (position_or_len p l) (length l) ≡ b → None ≡ cond b (Some (position_or_len p l)) None → length l ≤ first_at p l
+      go true t e = absurd (cc)
+      go false t e = omega (arith, ltb-false (position_or_len p l) (length l) t, first-position l)
 
   pub first-filter : (l : List ℕ) → first_at p l < length l → filter p l ≡ get_or l (first_at p l) 0 ∷ filter p (drop (suc (first_at p l)) l)
   unfolding first_at

@@ -10,11 +10,10 @@
 --   length-put        an exchange keeps the length
 --   laid_end          the two parts, one after the other, are the column rule
 --   LastZero          what the search for the rightmost zero finds
---   Ones, ones-start, ones_more, ones-found, ones_end                    that search, from the right
---   Swept, swept-start, swept-zero, swept_none, swept-one, swept_end     the sweep, from the left
---   not-true, not-false   a test turned round
+--   Ones              that search, from the right
+--   Swept, swept-zero, swept_none, swept-one, swept_end     the sweep, from the left
 -- Assumes nothing.
-use Rattle.std.specs.Prelude.{◌≡◌, Bool, true, false, cond, eqb}
+use Rattle.std.specs.Prelude.{◌≡◌, Bool, true, false, cond, eqb, position, Some, None}
 use Rattle.std.proofs.Math.Path.{refl, ap, subst}
 use Rattle.std.proofs.Common.{sym, ◌∙◌, ⊎_elim, length-set, take-append-drop, get_or-set_same, get_or-set_other, get_or-drop, get_or-take, take_at, eqb-true}
 use Rattle.std.proofs.Math.Bool.{not}
@@ -31,7 +30,7 @@ use Rattle.rule.specs.Rule.{Cut, rev, found, put, swept, filled, arrange}
 use Rattle.rule.specs.Places.{front, back, turn-zero, turns_end}
 use Rattle.rule.proofs.Places.{turn_one, turn-none}
 use Rattle.grid.specs.Grid.{Under}
-use Rattle.columns.specs.First.{first_at}
+use Rattle.columns.specs.First.{first_at, first_found, first_missing}
 use Rattle.columns.specs.Exchange.{swapped, length-swapped, exchanged, unfound}
 
 abbrev pub laid : Cut → List ℕ
@@ -125,16 +124,26 @@ module _ (p : ℕ → Bool) where
     pub moved_kept : (k : ℕ) → 0 < length v → p (get_or v 0 0) ≡ true → Moved l (fronted p k v) v v
     moved_kept k h e = record { is = front_kept k v h e; under = u; long = refl }
 
-    module _ (k j : ℕ) (h : 0 < k) (s : k ≤ length v) (e : p (get_or v 0 0) ≡ false) (f : j ≡ first_at p (take (k - 1) (drop 1 v))) where
-      pub moved_found : j + 1 < k → {w : List ℕ} → w ≡ swapped 0 (j + 1) v → Moved l (fronted p k v) v w
-      moved_found n q = record {
-        is = q ∙ front-found k j v h s e f n;
-        under = rw q (under_swapped v 0 (j + 1) (omega arith) (omega arith) u);
-        long = ap length q ∙ length-swapped 0 (j + 1) v;
-      }
+    module _ (k : ℕ) (h : 0 < k) (s : k ≤ length v) (e : p (get_or v 0 0) ≡ false) where
+      middle : length (take (k - 1) (drop 1 v)) ≡ k - 1
+      middle = length-take-le (k - 1) (drop 1 v) (omega (arith, length-drop 1 v))
 
-      pub moved_none : k ≤ j + 1 → Moved l (fronted p k v) v v
-      moved_none n = record { is = front-none k j v h s e f n; under = u; long = refl }
+      pub moved_found : (j : ℕ) → Some j ≡ position p (take (k - 1) (drop 1 v)) → {w : List ℕ} → w ≡ swapped 0 (j + 1) v → Moved l (fronted p k v) v w
+      moved_found j f {w} q =
+          let g = first_found p (take (k - 1) (drop 1 v)) j f in
+          let n : j + 1 < k = omega (arith, g.1, middle) in
+          record {
+            is = q ∙ front-found k j v h s e g.0 n;
+            under = rw q (under_swapped v 0 (j + 1) (omega arith) (omega arith) u);
+            long = ap length q ∙ length-swapped 0 (j + 1) v;
+          }
+
+      pub moved_none : None ≡ position p (take (k - 1) (drop 1 v)) → Moved l (fronted p k v) v v
+      moved_none f = record {
+        is = front-none k (first_at p (take (k - 1) (drop 1 v))) v h s e refl (omega (arith, first_missing p (take (k - 1) (drop 1 v)) f, middle));
+        under = u;
+        long = refl;
+      }
 
   pub length-put : (a : ℕ) (M : List ℕ) → length (put p a M) ≡ length M
   length-put a [] = refl
@@ -187,9 +196,6 @@ pub record Swept (p : ℕ → Bool) (l : ℕ) (v₀ : List ℕ) (k : ℕ) (v : L
   pub under : Under l v
   pub front-is : front p k c v ≡ front p k 1 v₀
   pub back_is : back p k c v ≡ back p k 1 v₀
-
-pub swept-start : {p : ℕ → Bool} {l : ℕ} {v : List ℕ} {k : ℕ} → 1 ≤ k → k ≤ length v → Under l v → Swept p l v k v 1
-swept-start h f u = record { long = refl; upto = h; fits = f; under = u; front-is = refl; back_is = refl }
 
 pub record LastZero (v : List ℕ) (p : ℕ → Bool) (k r : ℕ) : Type 0 where
   pub after : (j : ℕ) → k ≤ j → j < length v → (r < length v → r < j) → p (get_or v j 0) ≡ true
@@ -249,28 +255,3 @@ swept_end {p} {l} {v₀} {k} {v} {c} h n =
 pub record Ones (v : List ℕ) (p : ℕ → Bool) (t : ℕ) : Type 0 where
   pub upto : t ≤ length v
   pub ones : (j : ℕ) → t ≤ j → j < length v → p (get_or v j 0) ≡ true
-
-pub ones-start : (v : List ℕ) (p : ℕ → Bool) → Ones v p (length v)
-ones-start v p = record { upto = omega arith; ones = λ j a b. absurd (omega arith) }
-
-module _ {v : List ℕ} {p : ℕ → Bool} {t : ℕ} (h : Ones v p t) where
-  pub ones_more : 0 < t → p (get_or v (t - 1) 0) ≡ true → Ones v p (t - 1)
-  ones_more n e = record {
-    upto = omega (arith, h.upto);
-    ones = λ j a b. ⊎_elim (λ s. subst (λ (w : ℕ). p (get_or v w 0) ≡ true) (sym (eqb-true j (t - 1) s)) e)
-        (λ s. let z : (j ≡ t - 1 → ⊥) = eqb-false j (t - 1) s in h.ones j (omega arith) b) (bool_or (eqb j (t - 1)));
-  }
-
-  pub ones-found : {k : ℕ} → k < t → p (get_or v (t - 1) 0) ≡ false → LastZero v p k (t - 1)
-  ones-found n e = record { after = λ j a b f. h.ones j (omega (arith, f (omega (arith, h.upto)))) b; low = λ _. omega arith; zero = λ _. e }
-
-  pub ones_end : {k : ℕ} → t ≤ k → LastZero v p k (length v)
-  ones_end n = record { after = λ j a b f. h.ones j (omega arith) b; low = λ a. absurd (omega arith); zero = λ a. absurd (omega arith) }
-
-pub not-true : (b : Bool) → not b ≡ true → b ≡ false
-not-true true e = sym e
-not-true false e = refl
-
-pub not-false : (b : Bool) → not b ≡ false → b ≡ true
-not-false true e = refl
-not-false false e = sym e

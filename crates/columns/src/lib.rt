@@ -1,38 +1,29 @@
 // Lists of rows and of columns by place: a chosen row and a chosen column come to the front.
 #![tactic(auto)]
 
-ghost use Rattle.std.specs.Prelude.{◌≡◌, ◌∷◌, ◌+◌, ◌*◌, ◌≤◌, ◌<◌, length};
+ghost use Rattle.std.specs.Prelude.{◌≡◌, ◌∷◌, ◌+◌, ◌*◌, ◌≤◌, ◌<◌, length, position, MatchOption};
 ghost use Rattle.rule.specs.Lists.{In};
 ghost use Rattle.rule.specs.Permitted.{count};
 ghost use Rattle.rule.specs.Rule.{without, arrange as columnRule};
 ghost use Rattle.grid.specs.Grid.{bit, Under};
-ghost use Rattle.columns.specs.First.{first_at};
 ghost use Rattle.columns.specs.Exchange.{swapped, is};
 ghost use Rattle.columns.specs.Sweep.{fronted, swept_out, Moved, Laid, LastZero};
+
+use grid::Grid;
 
 // Exchanges the entries at places i and j.
 pub fn swap(d: &mut [usize], i: usize, j: usize)
     requires { (i < length d.old) × (j < length d.old) }
     ensures { d.new ≡ swapped i j d.old }
 {
-    let x = d[i];
-    let y = d[j];
-    d[i] = y;
-    d[j] = x;
+    d.swap(i, j);
 }
 
-// The place of the first x, or the length.
-fn place(e: &[usize], x: usize) -> usize
-    ensures { result ≡ first_at (is x) e.now }
+// The place of the first x.
+pub fn place(e: &[usize], x: usize) -> Option<usize>
+    ensures { result ≡ position (is x) e.now }
 {
-    let mut i = 0;
-    while i < e.len() {
-        if e[i] == x {
-            return i;
-        }
-        i += 1;
-    }
-    i
+    e.iter().position(|&y| y == x)
 }
 
 // The chosen row x is exchanged with the first: it stands before the rows that stay eligible.
@@ -40,89 +31,70 @@ pub fn bring_row(e: &mut [usize], x: usize)
     requires { In x e.old }
     ensures { e.new ≡ x ∷ without x e.old }
 {
-    let k = place(e, x);
+    let k = place(e, x).unwrap();
     swap(e, 0, k);
 }
 
-// The rightmost place from k on whose column has a zero of row x, or the length.
-fn last_zero(v: &[usize], bits: &[u8], l: usize, x: usize, k: usize) -> usize
-    requires l_in_bounds { x * l + l ≤ length bits.now }
-    requires under { Under l v.now }
-    ensures { LastZero v.now (bit l bits.now x) k result }
+// The rightmost place from k on whose column has a zero of row x.
+fn last_zero(v: &[usize], g: Grid<'_>, x: usize, k: usize) -> Option<usize>
+    requires l_in_bounds { x * g.l + g.l ≤ length g.bits.now }
+    requires under { Under g.l v.now }
+    ensures { MatchOption result (LastZero v.now (bit g.entry.l g.entry.bits.now x) k (length v.now)) (λ z. (z < length v.now) × LastZero v.now (bit g.entry.l g.entry.bits.now x) k z) }
 {
-    let n = v.len();
-    let mut t = n;
-    while t > k {
-        let u = t - 1;
-        let q = v[u];
-        if !grid::has(bits, l, x, q) {
-            return u;
+    for z in (k..v.len()).rev() {
+        if !g.has(x, v[z]) {
+            return Some(z);
         }
-        t = u;
     }
-    n
+    None
 }
 
 // Each one between place 1 and k is exchanged with the rightmost zero from k on.
-fn sweep(v: &mut [usize], bits: &[u8], l: usize, x: usize, k: usize)
-    requires l_in_bounds { (x * l + l ≤ length bits.now) × (1 ≤ k) × (k ≤ length v.old) }
-    requires under { Under l v.old }
-    ensures { Moved l (swept_out (bit l bits.now x) k v.old) v.old v.new }
+fn sweep(v: &mut [usize], g: Grid<'_>, x: usize, k: usize)
+    requires l_in_bounds { (x * g.l + g.l ≤ length g.bits.now) × (1 ≤ k) × (k ≤ length v.old) }
+    requires under { Under g.l v.old }
+    ensures { Moved g.entry.l (swept_out (bit g.entry.l g.entry.bits.now x) k v.old) v.old v.new }
 {
-    let mut c = 1;
-    while c < k {
-        let q = v[c];
-        if grid::has(bits, l, x, q) {
-            let z = last_zero(v, bits, l, x, k);
-            if z < v.len() {
+    for c in 1..k {
+        if g.has(x, v[c]) {
+            if let Some(z) = last_zero(v, g, x, k) {
                 swap(v, c, z);
             }
         }
-        c += 1;
     }
 }
 
-// The place of the first column of v that has a one of row x, or the length.
-fn first_one(v: &[usize], bits: &[u8], l: usize, x: usize) -> usize
-    requires l_in_bounds { x * l + l ≤ length bits.now }
-    requires under { Under l v.now }
-    ensures { result ≡ first_at (bit l bits.now x) v.now }
+// The place of the first column of v that has a one of row x.
+fn first_one(v: &[usize], g: Grid<'_>, x: usize) -> Option<usize>
+    requires l_in_bounds { x * g.l + g.l ≤ length g.bits.now }
+    requires under { Under g.l v.now }
+    ensures { result ≡ position (bit g.entry.l g.entry.bits.now x) v.now }
 {
-    let mut k = 0;
-    while k < v.len() {
-        let q = v[k];
-        if grid::has(bits, l, x, q) {
-            return k;
-        }
-        k += 1;
-    }
-    k
+    v.iter().position(|&q| g.has(x, q))
 }
 
 // The first one among the first k columns is exchanged with the first column.
-fn front_one(v: &mut [usize], bits: &[u8], l: usize, x: usize, k: usize)
-    requires l_in_bounds { (x * l + l ≤ length bits.now) × (1 ≤ k) × (k ≤ length v.old) }
-    requires under { Under l v.old }
-    ensures { Moved l (fronted (bit l bits.now x) k v.old) v.old v.new }
+fn front_one(v: &mut [usize], g: Grid<'_>, x: usize, k: usize)
+    requires l_in_bounds { (x * g.l + g.l ≤ length g.bits.now) × (1 ≤ k) × (k ≤ length v.old) }
+    requires under { Under g.l v.old }
+    ensures { Moved g.entry.l (fronted (bit g.entry.l g.entry.bits.now x) k v.old) v.old v.new }
 {
-    let q = v[0];
-    if grid::has(bits, l, x, q) {
+    if g.has(x, v[0]) {
         return;
     }
-    let j = first_one(&v[1..k], bits, l, x);
-    let p = j + 1;
-    if p < k {
-        swap(v, 0, p);
+    if let Some(j) = first_one(&v[1..k], g, x) {
+        swap(v, 0, j + 1);
     }
 }
 
 // The column rule for row x, which has r ones in V's columns v: a one comes first, its other r - 1 ones come last.
-pub fn arrange(v: &mut [usize], bits: &[u8], l: usize, x: usize, r: usize)
-    requires l_in_bounds { (x * l + l ≤ length bits.now) × (0 < r) × (r ≡ count (bit l bits.now) v.old x) }
-    requires under { Under l v.old }
-    ensures { Laid l (columnRule (bit l bits.now) v.old x) v.old v.new }
+#[tactic(auto, using(crate::specs::Sweep::ones_upto))]
+pub fn arrange(v: &mut [usize], g: Grid<'_>, x: usize, r: usize)
+    requires l_in_bounds { (x * g.l + g.l ≤ length g.bits.now) × (0 < r) × (r ≡ count (bit g.l g.bits.now) v.old x) }
+    requires under { Under g.l v.old }
+    ensures { Laid g.entry.l (columnRule (bit g.entry.l g.entry.bits.now) v.old x) v.old v.new }
 {
     let k = v.len() - (r - 1);
-    front_one(v, bits, l, x, k);
-    sweep(v, bits, l, x, k);
+    front_one(v, g, x, k);
+    sweep(v, g, x, k);
 }

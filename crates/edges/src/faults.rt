@@ -1,176 +1,224 @@
 // Calls with a room that is one short, or with a fault or two.
 use crate::calls::again;
-use crate::said::{more, put_answer};
-use crate::same::both;
-use crate::told::{Lent, Seen};
-use crate::{BAD_COUNT, BAD_SHAPE, NO_ROOM, ROOMS};
-use programs::put;
-use solver::Rooms;
+use crate::said::is_right;
+use crate::told::{First, Lent, Seen};
+use solver::{Refusal, Rooms};
 use std::io;
 use std::io::Write;
 
-// One less, or 0.
-pub(crate) fn less(n: usize) -> usize {
-    if n < 1 {
-        return 0;
-    }
-    n - 1
+// A room that is one short, or a fault, or two faults at once.
+#[derive(Clone, Copy, Debug, PartialEq, Eq)]
+pub(crate) enum Fault {
+    Order,
+    Vector,
+    Work,
+    Scratch,
+    Columns,
+    Rows,
+    Ones,
+    Degrees,
+    Singles,
+    Labels,
+    Sizes,
+    NoK,
+    MoreRows,
+    FewerRows,
+    NoBytes,
+    Matrix,
+    Slab,
+    NoKNorBytes,
+    NoBytesAndOrder,
+    OrderAndList,
+    Octets,
 }
 
-// Whether a call was refused with this number, and changed nothing.
-pub(crate) fn is_refused(e: Seen, refusal: usize) -> bool {
-    let a = e.answer;
-    both(e.unchanged, solver::number(a) == refusal)
+// The rooms but the list's.
+pub(crate) const ROOMS: [Fault; 11] = [
+    Fault::Order,
+    Fault::Vector,
+    Fault::Work,
+    Fault::Scratch,
+    Fault::Columns,
+    Fault::Rows,
+    Fault::Ones,
+    Fault::Degrees,
+    Fault::Singles,
+    Fault::Labels,
+    Fault::Sizes,
+];
+
+// The other faults, but the one that is for octet rows that are given.
+pub(crate) const FAULTS: [Fault; 9] = [
+    Fault::NoK,
+    Fault::MoreRows,
+    Fault::FewerRows,
+    Fault::NoBytes,
+    Fault::Matrix,
+    Fault::Slab,
+    Fault::NoKNorBytes,
+    Fault::NoBytesAndOrder,
+    Fault::OrderAndList,
+];
+
+// Whether a call was refused for this, and changed nothing.
+pub(crate) fn is_refused(e: Seen, refusal: Refusal) -> bool {
+    e.unchanged && e.answer == Err(refusal)
 }
 
 // The working rooms, with one of them one shorter.
-fn shorter(r: Rooms, which: usize) -> Rooms {
-    let mut x = r;
-    match which {
-        2 => x.work = less(r.work),
-        3 => x.scratch = less(r.scratch),
-        4 => x.columns = less(r.columns),
-        5 => x.rows = less(r.rows),
-        6 => x.ones = less(r.ones),
-        7 => x.degrees = less(r.degrees),
-        8 => x.singles = less(r.singles),
-        9 => x.labels = less(r.labels),
-        _ => x.sizes = less(r.sizes),
-    }
-    x
-}
-
-// A call with one room shorter, or with another fault or two. The last one is for octet rows that are given.
-pub(crate) fn tried(l: Lent, which: usize) -> Lent {
-    let mut x = l;
-    match which {
-        0 => x.order = less(l.order),
-        1 => x.vector = less(l.vector),
-        11 => x.k = 0,
-        12 => x.m = more(l.m),
-        13 => x.m = less(l.m),
-        14 => x.t = 0,
-        15 => x.bits = less(l.bits),
-        16 => x.slab = less(l.slab),
-        17 => {
-            x.k = 0;
-            x.t = 0;
-        }
-        18 => {
-            x.t = 0;
-            x.order = less(l.order);
-        }
-        19 => {
-            x.order = less(l.order);
-            x.list = less(l.list);
-        }
-        20 => x.octets = less(l.octets),
-        _ => {
-            let r = shorter(l.rooms, which);
-            x.rooms = r;
-        }
-    }
-    x
-}
-
-// The number that such a call answers.
-fn wanted(which: usize) -> usize {
-    if which < ROOMS {
-        return NO_ROOM;
-    }
-    match which {
-        11 | 17 => BAD_COUNT,
-        19 => NO_ROOM,
-        _ => BAD_SHAPE,
+fn shorter(r: Rooms, fault: Fault) -> Rooms {
+    match fault {
+        Fault::Work => Rooms {
+            work: r.work.saturating_sub(1),
+            ..r
+        },
+        Fault::Scratch => Rooms {
+            scratch: r.scratch.saturating_sub(1),
+            ..r
+        },
+        Fault::Columns => Rooms {
+            columns: r.columns.saturating_sub(1),
+            ..r
+        },
+        Fault::Rows => Rooms {
+            rows: r.rows.saturating_sub(1),
+            ..r
+        },
+        Fault::Ones => Rooms {
+            ones: r.ones.saturating_sub(1),
+            ..r
+        },
+        Fault::Degrees => Rooms {
+            degrees: r.degrees.saturating_sub(1),
+            ..r
+        },
+        Fault::Singles => Rooms {
+            singles: r.singles.saturating_sub(1),
+            ..r
+        },
+        Fault::Labels => Rooms {
+            labels: r.labels.saturating_sub(1),
+            ..r
+        },
+        _ => Rooms {
+            sizes: r.sizes.saturating_sub(1),
+            ..r
+        },
     }
 }
 
-// The name of a working room.
-fn put_room<W: Write>(out: &mut W, which: usize) -> io::Result<()> {
-    match which {
-        2 => put(out, b"work"),
-        3 => put(out, b"scratch"),
-        4 => put(out, b"columns"),
-        5 => put(out, b"rows"),
-        6 => put(out, b"ones"),
-        7 => put(out, b"degrees"),
-        8 => put(out, b"singles"),
-        9 => put(out, b"labels"),
-        _ => put(out, b"sizes"),
+// A call with a fault.
+pub(crate) fn with_fault(l: Lent, fault: Fault) -> Lent {
+    let order = l.order.saturating_sub(1);
+    match fault {
+        Fault::Order => Lent { order, ..l },
+        Fault::Vector => Lent {
+            vector: l.vector.saturating_sub(1),
+            ..l
+        },
+        Fault::NoK => Lent { k: 0, ..l },
+        Fault::MoreRows => Lent {
+            m: l.m.saturating_add(1),
+            ..l
+        },
+        Fault::FewerRows => Lent {
+            m: l.m.saturating_sub(1),
+            ..l
+        },
+        Fault::NoBytes => Lent { t: 0, ..l },
+        Fault::Matrix => Lent {
+            bits: l.bits.saturating_sub(1),
+            ..l
+        },
+        Fault::Slab => Lent {
+            slab: l.slab.saturating_sub(1),
+            ..l
+        },
+        Fault::NoKNorBytes => Lent { k: 0, t: 0, ..l },
+        Fault::NoBytesAndOrder => Lent { t: 0, order, ..l },
+        Fault::OrderAndList => Lent {
+            order,
+            list: l.list.saturating_sub(1),
+            ..l
+        },
+        Fault::Octets => Lent {
+            octets: l.octets.saturating_sub(1),
+            ..l
+        },
+        room => Lent {
+            rooms: shorter(l.rooms, room),
+            ..l
+        },
     }
 }
 
-// The name of a fault, or of two.
-fn put_fault<W: Write>(out: &mut W, which: usize) -> io::Result<()> {
-    match which {
-        11 => put(out, b"K 0"),
-        12 => put(out, b"M + 1"),
-        13 => put(out, b"M - 1"),
-        14 => put(out, b"T 0"),
-        15 => put(out, b"matrix"),
-        16 => put(out, b"slab"),
-        17 => put(out, b"K and T"),
-        18 => put(out, b"T, order"),
-        19 => put(out, b"order, list"),
-        _ => put(out, b"octets"),
+// Why such a call is refused.
+fn wanted(fault: Fault) -> Refusal {
+    match fault {
+        Fault::NoK | Fault::NoKNorBytes => Refusal::BadCount,
+        Fault::MoreRows
+        | Fault::FewerRows
+        | Fault::NoBytes
+        | Fault::Matrix
+        | Fault::Slab
+        | Fault::NoBytesAndOrder
+        | Fault::Octets => Refusal::BadShape,
+        _ => Refusal::NoRoom,
     }
 }
 
 // The name of what was tried.
-fn put_tried<W: Write>(out: &mut W, which: usize) -> io::Result<()> {
-    if which == 0 {
-        return put(out, b"order");
+fn name(fault: Fault) -> &'static str {
+    match fault {
+        Fault::Order => "order",
+        Fault::Vector => "vector",
+        Fault::Work => "work",
+        Fault::Scratch => "scratch",
+        Fault::Columns => "columns",
+        Fault::Rows => "rows",
+        Fault::Ones => "ones",
+        Fault::Degrees => "degrees",
+        Fault::Singles => "singles",
+        Fault::Labels => "labels",
+        Fault::Sizes => "sizes",
+        Fault::NoK => "K 0",
+        Fault::MoreRows => "M + 1",
+        Fault::FewerRows => "M - 1",
+        Fault::NoBytes => "T 0",
+        Fault::Matrix => "matrix",
+        Fault::Slab => "slab",
+        Fault::NoKNorBytes => "K and T",
+        Fault::NoBytesAndOrder => "T, order",
+        Fault::OrderAndList => "order, list",
+        Fault::Octets => "octets",
     }
-    if which == 1 {
-        return put(out, b"vector");
-    }
-    if which < ROOMS {
-        return put_room(out, which);
-    }
-    put_fault(out, which)
 }
 
-// One more where such a call is refused; else it is said to be wrong.
-fn count_tried<W: Write>(out: &mut W, n: usize, which: usize, e: Seen) -> io::Result<usize> {
-    if is_refused(e, wanted(which)) {
-        return Ok(more(n));
-    }
-    put(out, b"wrong ")?;
-    put_tried(out, which)?;
-    let a = e.answer;
-    put_answer(out, a)?;
-    Ok(n)
+// Whether a call with a fault is refused for it; else it is said to be wrong.
+pub(crate) fn is_fault_refused<W: Write>(
+    out: &mut W,
+    l: Lent,
+    fault: Fault,
+    bits: &[u8],
+    first: First,
+) -> io::Result<bool> {
+    let e = again(with_fault(l, fault), bits, first);
+    is_right(out, is_refused(e, wanted(fault)), name(fault), e.answer)
 }
 
-// How many such calls are refused.
+// How many calls with these faults are refused.
 pub(crate) fn refused<W: Write>(
     out: &mut W,
     l: Lent,
-    from: usize,
-    end: usize,
+    faults: &[Fault],
     bits: &[u8],
-    octets: &[u8],
-    slab: &[u8],
-    solved: &[u8],
-    list: &[u64],
-    order: &[usize],
-    vector: &[u8],
+    first: First,
 ) -> io::Result<usize> {
-    let mut right = 0;
-    let mut which = from;
-    while which < end {
-        let e = again(
-            tried(l, which),
-            bits,
-            octets,
-            slab,
-            solved,
-            list,
-            order,
-            vector,
-        );
-        right = count_tried(out, right, which, e)?;
-        which += 1;
+    let mut right = 0usize;
+    for fault in faults {
+        if is_fault_refused(out, l, *fault, bits, first)? {
+            right = right.saturating_add(1);
+        }
     }
     Ok(right)
 }

@@ -26,10 +26,8 @@ mod told;
 mod trials;
 mod twos;
 
-use params::Parameters;
-use programs::{at_most, put, read_full};
+use programs::read_full;
 use said::put_case;
-use solver::Need;
 use std::io;
 use std::io::Write;
 use systems::{Read, System};
@@ -51,22 +49,6 @@ const FILL_BYTE: u8 = 7;
 
 const FILL_WORD: u64 = 7;
 
-// The numbers of the refusals, as the solver is to answer them.
-const BAD_COUNT: usize = 1;
-
-const BAD_SHAPE: usize = 2;
-
-const BAD_ENTRY: usize = 3;
-
-const NO_ROOM: usize = 4;
-
-const LIST_FULL: usize = 5;
-
-// The calls of `faults::tried` have numbers: first so many with a room that is one short, then so many with a fault or two.
-const ROOMS: usize = 11;
-
-const FAULTS: usize = 10;
-
 // A case, with its buffers cut to what it has filled.
 fn try_case<W: Write>(
     out: &mut W,
@@ -76,21 +58,21 @@ fn try_case<W: Write>(
     octets: &[u8],
     slab: &[u8],
 ) -> io::Result<()> {
-    let b = at_most(s.bits, bits.len());
-    let o = at_most(s.octets, octets.len());
-    let n = at_most(s.slab, slab.len());
+    let b = s.bits.min(bits.len());
+    let o = s.octets.min(octets.len());
+    let n = s.slab.min(slab.len());
     match params::params(s.k) {
-        Parameters::BadCount => {
-            put(out, name)?;
-            put(out, b" has no table entry\n")
+        Err(_) => {
+            out.write_all(name)?;
+            writeln!(out, " has no table entry")
         }
-        Parameters::Found(g) => match solver::needs(s.m, s.l) {
-            Need::BadShape => {
-                put(out, name)?;
-                put(out, b" is out of bounds\n")
+        Ok(g) => match solver::needs(s.m, s.l) {
+            Err(_) => {
+                out.write_all(name)?;
+                writeln!(out, " is out of bounds")
             }
-            Need::Entries(r) => {
-                let c = try_calls(out, s, g, r, &mut bits[0..b], &octets[0..o], &slab[0..n])?;
+            Ok(r) => {
+                let c = try_calls(out, s, g, r, &mut bits[..b], &octets[..o], &slab[..n])?;
                 put_case(out, name, c)
             }
         },
@@ -108,9 +90,8 @@ fn one<W: Write>(
 ) -> io::Result<usize> {
     match systems::read(text, at, bits, octets, slab) {
         Read::Case(s, p) => {
-            let end = at_most(p.end, text.len());
-            let from = at_most(p.from, end);
-            try_case(out, &text[from..end], s, bits, &octets[..], &slab[..])?;
+            let end = p.end.min(text.len());
+            try_case(out, &text[p.from.min(end)..end], s, bits, octets, slab)?;
             Ok(p.next)
         }
         Read::Malformed(p) => {
@@ -143,10 +124,7 @@ fn main(rt: HostRuntime) -> io::Result<()> {
     let n = read_full(&mut rt.stdin(), &mut input)?;
     let mut out = io::writer(&rt);
     if MOST_TEXT < n {
-        return put(
-            &mut out,
-            b"refused: the input is longer than 262144 bytes\n",
-        );
+        return writeln!(out, "refused: the input is longer than {MOST_TEXT} bytes");
     }
     all(&mut out, &input[..n])
 }

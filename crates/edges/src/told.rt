@@ -2,6 +2,7 @@
 use solver::{Answer, Rooms};
 
 // The numbers of a call, and how many entries of each slice are lent to it.
+// `octet` stands beside its count: a call with octet rows may be lent too few octets, or none, and the buffer is cut by the count.
 #[derive(Clone, Copy)]
 pub struct Lent {
     pub k: usize,
@@ -17,19 +18,24 @@ pub struct Lent {
     pub rooms: Rooms,
 }
 
-// Whether the working slices are as before a call, and whether they are all zeros.
-#[derive(Clone, Copy)]
-pub struct Held {
-    pub untouched: bool,
-    pub cleared: bool,
-}
-
-// An answer, and what became of the working slices.
+// An answer, and whether the working slices are as before the call, and whether they are all zeros.
 #[derive(Clone, Copy)]
 pub struct Outcome {
     pub answer: Answer,
     pub untouched: bool,
     pub cleared: bool,
+}
+
+// Octet rows and slab of a case, and what its first call answered and left: solved slab, list, order and vector.
+#[derive(Clone, Copy)]
+pub struct First<'a> {
+    pub octets: &'a [u8],
+    pub slab: &'a [u8],
+    pub outcome: Outcome,
+    pub solved: &'a [u8],
+    pub list: &'a [u64],
+    pub order: &'a [usize],
+    pub vector: &'a [u8],
 }
 
 // An answer, and what is true of all buffers after it: none changed; the slab did not and the others are zeros; they are as after the first call.

@@ -1,66 +1,45 @@
 // Every call of a case.
 use crate::calls::{again, call, copy};
-use crate::faults::refused;
-use crate::lengths::{halve, is_same, short_list};
+use crate::faults::{FAULTS, Fault, ROOMS, is_fault_refused, refused};
+use crate::lengths::{halve, is_same, is_short_full};
 use crate::said::is_right;
-use crate::same::{both, bytes_begin, outputs_are};
-use crate::told::{Compared, Halved, Lent, Outcome};
+use crate::same::outputs_are;
+use crate::told::{Compared, First, Halved, Lent};
 use crate::twos::twos_right;
-use crate::{FAULTS, FILL, FILL_BYTE, FILL_WORD, MOST_LIST, ROOMS, SLAB_ROOM};
+use crate::{FILL, FILL_BYTE, FILL_WORD, MOST_LIST, SLAB_ROOM};
 use params::Sizes;
-use programs::{LINE_ROOM, SIZES_ROOM, WORK_ROOM, at_most};
-use solver::{Answer, Rooms};
+use programs::{LINE_ROOM, SIZES_ROOM, WORK_ROOM};
+use solver::{Answer, Refusal, Rooms};
 use std::io;
 use std::io::Write;
 use systems::System;
 
 // Whether list, order and vector are zeros from these places on.
-fn end_in_zeros(
-    list: &[u64],
-    order: &[usize],
-    vector: &[u8],
-    operations: usize,
-    ordered: usize,
-    combined: usize,
-) -> bool {
-    let n = at_most(operations, list.len());
-    let o = at_most(ordered, order.len());
-    let v = at_most(combined, vector.len());
-    outputs_are(&list[n..], &order[o..], &vector[v..], 0)
+fn end_in_zeros(first: First, operations: usize, ordered: usize, combined: usize) -> bool {
+    outputs_are(
+        &first.list[operations.min(first.list.len())..],
+        &first.order[ordered.min(first.order.len())..],
+        &first.vector[combined.min(first.vector.len())..],
+        0,
+    )
 }
 
 // Whether the first call left zeros wherever it has nothing to say, and, unless it solved the system, the slab as it was.
-fn is_clean(
-    o: Outcome,
-    l: usize,
-    slab: &[u8],
-    solved: &[u8],
-    list: &[u64],
-    order: &[usize],
-    vector: &[u8],
-) -> bool {
-    if !o.cleared {
-        return false;
-    }
-    let a = o.answer;
-    match a {
-        Answer::Solved(r) => end_in_zeros(list, order, vector, r.operations, l, 0),
-        Answer::Singular => both(
-            bytes_begin(slab, solved),
-            end_in_zeros(list, order, vector, 0, 0, l),
-        ),
-        _ => both(
-            bytes_begin(slab, solved),
-            end_in_zeros(list, order, vector, 0, 0, 0),
-        ),
-    }
+fn is_clean(first: First, l: usize) -> bool {
+    let kept = first.slab.starts_with(first.solved);
+    first.outcome.cleared
+        && match first.outcome.answer {
+            Ok(r) => end_in_zeros(first, r.operations, l, 0),
+            Err(Refusal::Singular) => kept && end_in_zeros(first, 0, 0, l),
+            Err(_) => kept && end_in_zeros(first, 0, 0, 0),
+        }
 }
 
 // Whether an answer reports this number of operations, if it reports one.
 fn reports(a: Answer, n: usize) -> bool {
     match a {
-        Answer::Solved(r) => r.operations == n,
-        _ => true,
+        Ok(r) => r.operations == n,
+        Err(_) => true,
     }
 }
 
@@ -97,67 +76,47 @@ fn ample(s: System) -> Lent {
 // The call with rooms that just suffice.
 fn tight(s: System, length: usize, rooms: Rooms) -> Lent {
     Lent {
-        k: s.k,
-        m: s.m,
-        t: s.t,
-        octet: s.octet,
-        bits: s.bits,
-        octets: s.octets,
-        slab: s.slab,
         list: length,
         order: rooms.order,
         vector: rooms.vector,
         rooms,
+        ..ample(s)
     }
 }
 
-// How many tries of `refused` there are: the last one is for octet rows that are given.
-fn tries(octet: bool) -> usize {
-    if octet {
-        return ROOMS + FAULTS;
+// How many calls with a fault are refused: the last one is for octet rows that are given.
+fn faults_refused<W: Write>(out: &mut W, l: Lent, bits: &[u8], first: First) -> io::Result<usize> {
+    let right = refused(out, l, &FAULTS, bits, first)?;
+    if l.octet && is_fault_refused(out, l, Fault::Octets, bits, first)? {
+        return Ok(right.saturating_add(1));
     }
-    ROOMS + FAULTS - 1
+    Ok(right)
+}
+
+// How many calls with a room that is one short are refused.
+fn rooms_refused<W: Write>(out: &mut W, l: Lent, bits: &[u8], first: First) -> io::Result<usize> {
+    let right = refused(out, l, &ROOMS, bits, first)?;
+    if is_short_full(out, l, bits, first)? {
+        return Ok(right.saturating_add(1));
+    }
+    Ok(right)
 }
 
 // The calls in rooms that just suffice, or are one short, and those with faults.
 fn try_tight<W: Write>(
     out: &mut W,
     l: Lent,
-    first: Answer,
     clean: bool,
     h: Halved,
     bits: &[u8],
-    octets: &[u8],
-    slab: &[u8],
-    solved: &[u8],
-    list: &[u64],
-    order: &[usize],
-    vector: &[u8],
+    first: First,
 ) -> io::Result<Compared> {
-    let e = again(l, bits, octets, slab, solved, list, order, vector);
-    let a = e.answer;
-    let full = is_right(out, is_same(e, first), b"wrong not full", a)?;
-    let rooms = refused(
-        out, l, 0, ROOMS, bits, octets, slab, solved, list, order, vector,
-    )?;
-    let short = short_list(
-        out, rooms, l, bits, octets, slab, solved, list, order, vector,
-    )?;
-    let damaged = refused(
-        out,
-        l,
-        ROOMS,
-        tries(l.octet),
-        bits,
-        octets,
-        slab,
-        solved,
-        list,
-        order,
-        vector,
-    )?;
+    let e = again(l, bits, first);
+    let full = is_right(out, is_same(e, first), "not full", e.answer)?;
+    let short = rooms_refused(out, l, bits, first)?;
+    let damaged = faults_refused(out, l, bits, first)?;
     Ok(Compared {
-        answer: solver::number(first),
+        answer: solver::number(first.outcome.answer),
         length: h.length,
         clean,
         halving: h.right,
@@ -173,49 +132,14 @@ fn try_rooms<W: Write>(
     out: &mut W,
     s: System,
     rooms: Rooms,
-    o: Outcome,
     bits: &[u8],
-    octets: &[u8],
-    slab: &[u8],
-    solved: &[u8],
-    list: &[u64],
-    order: &[usize],
-    vector: &[u8],
+    first: First,
 ) -> io::Result<Compared> {
-    let first = o.answer;
-    let clean = is_right(
-        out,
-        is_clean(o, s.l, slab, solved, list, order, vector),
-        b"wrong not clean",
-        first,
-    )?;
-    let h = halve(
-        out,
-        ample(s),
-        first,
-        bits,
-        octets,
-        slab,
-        solved,
-        list,
-        order,
-        vector,
-    )?;
-    is_right(out, reports(first, h.length), b"wrong length", first)?;
-    try_tight(
-        out,
-        tight(s, h.length, rooms),
-        first,
-        clean,
-        h,
-        bits,
-        octets,
-        slab,
-        solved,
-        list,
-        order,
-        vector,
-    )
+    let answer = first.outcome.answer;
+    let clean = is_right(out, is_clean(first, s.l), "not clean", answer)?;
+    let h = halve(out, ample(s), bits, first)?;
+    is_right(out, reports(answer, h.length), "length", answer)?;
+    try_tight(out, tight(s, h.length, rooms), clean, h, bits, first)
 }
 
 // Every call after the first one.
@@ -224,34 +148,12 @@ fn compare<W: Write>(
     s: System,
     g: Sizes,
     rooms: Rooms,
-    o: Outcome,
     bits: &mut [u8],
-    octets: &[u8],
-    slab: &[u8],
-    solved: &[u8],
-    list: &[u64],
-    order: &[usize],
-    vector: &[u8],
+    first: First,
 ) -> io::Result<Compared> {
-    let mut c = try_rooms(
-        out, s, rooms, o, bits, octets, slab, solved, list, order, vector,
-    )?;
-    let first = o.answer;
-    let twos = twos_right(
-        out,
-        tight(s, c.length, rooms),
-        g,
-        first,
-        bits,
-        octets,
-        slab,
-        solved,
-        list,
-        order,
-        vector,
-    )?;
-    c.twos = twos;
-    Ok(c)
+    let c = try_rooms(out, s, rooms, bits, first)?;
+    let twos = twos_right(out, tight(s, c.length, rooms), g, bits, first)?;
+    Ok(Compared { twos, ..c })
 }
 
 // The first call, in buffers of its own, and what follows it.
@@ -268,10 +170,17 @@ fn first_call<W: Write>(
     order: &mut [usize],
     vector: &mut [u8],
 ) -> io::Result<Compared> {
-    let o = call(ample(s), bits, octets, solved, list, order, vector);
-    compare(
-        out, s, g, rooms, o, bits, octets, slab, solved, list, order, vector,
-    )
+    let outcome = call(ample(s), bits, octets, solved, list, order, vector);
+    let first = First {
+        octets,
+        slab,
+        outcome,
+        solved,
+        list,
+        order,
+        vector,
+    };
+    compare(out, s, g, rooms, bits, first)
 }
 
 // A case that is within the bounds.
@@ -289,7 +198,6 @@ pub(crate) fn try_calls<W: Write>(
     let mut order = [FILL; LINE_ROOM];
     let mut vector = [FILL_BYTE; LINE_ROOM];
     copy(slab, &mut solved);
-    let n = at_most(s.slab, SLAB_ROOM);
     first_call(
         out,
         s,
@@ -298,7 +206,7 @@ pub(crate) fn try_calls<W: Write>(
         bits,
         octets,
         slab,
-        &mut solved[0..n],
+        &mut solved[..s.slab.min(SLAB_ROOM)],
         &mut list,
         &mut order,
         &mut vector,

@@ -1,106 +1,90 @@
 // Calls with a 2 in the binary matrix.
-use crate::BAD_ENTRY;
 use crate::calls::again;
-use crate::faults::{is_refused, less, tried};
+use crate::faults::{Fault, is_refused, with_fault};
 use crate::lengths::is_same;
-use crate::said::count_at;
-use crate::same::both;
-use crate::told::{Lent, Seen};
+use crate::said::is_right_at;
+use crate::told::{First, Lent, Seen};
 use params::Sizes;
-use programs::at_most;
-use solver::Answer;
+use solver::Refusal;
 use std::io;
 use std::io::Write;
 
-// How many calls with a 2 in the binary matrix there are.
-const TWOS: usize = 7;
-
-// The product of two numbers up to this one fits.
-const MOST_FACTOR: usize = 65535;
-
-// The product of two numbers that are not too large.
-fn product(a: usize, b: usize) -> usize {
-    if MOST_FACTOR < a {
-        return 0;
-    }
-    if MOST_FACTOR < b {
-        return 0;
-    }
-    a * b
+// Where the 2 is: the first or the last place of the binary matrix, the last before or the first after the octet rows, their first or last; or
+// the first again, and the order is one short.
+#[derive(Clone, Copy, Debug, PartialEq, Eq)]
+enum Two {
+    First,
+    Last,
+    BeforeOctets,
+    AfterOctets,
+    OctetsFirst,
+    OctetsLast,
+    FirstInShortOrder,
 }
 
-// First and last place of the binary matrix, the last before and the first after the octet rows, their first and last, and the first again.
-fn place(g: Sizes, bits: usize, which: usize) -> usize {
-    let s = at_most(g.s, bounds::MOST_ROWS);
-    let h = at_most(g.h, bounds::MOST_ROWS);
-    match which {
-        0 => 0,
-        1 => less(bits),
-        2 => less(product(s, g.l)),
-        3 => product(s + h, g.l),
-        4 => product(s, g.l),
-        5 => less(product(s + h, g.l)),
-        _ => 0,
+const TWOS: [Two; 7] = [
+    Two::First,
+    Two::Last,
+    Two::BeforeOctets,
+    Two::AfterOctets,
+    Two::OctetsFirst,
+    Two::OctetsLast,
+    Two::FirstInShortOrder,
+];
+
+// The place of a 2, where there is one.
+fn place(g: Sizes, bits: usize, two: Two) -> usize {
+    let from = g.s.saturating_mul(g.l);
+    let end = g.s.saturating_add(g.h).saturating_mul(g.l);
+    match two {
+        Two::First | Two::FirstInShortOrder => 0,
+        Two::Last => bits.saturating_sub(1),
+        Two::BeforeOctets => from.saturating_sub(1),
+        Two::AfterOctets => end,
+        Two::OctetsFirst => from,
+        Two::OctetsLast => end.saturating_sub(1),
     }
 }
 
-// Whether a call with a 2 at a place is right: refused, or, in the place of a given octet row, as the first one.
-fn is_two_right(octet: bool, which: usize, e: Seen, first: Answer) -> bool {
-    if both(octet, both(3 < which, which < 6)) {
+// Whether a call with a 2 is right: refused, or, in the place of a given octet row, as the first one.
+fn is_two_right(octet: bool, two: Two, e: Seen, first: First) -> bool {
+    if octet && (two == Two::OctetsFirst || two == Two::OctetsLast) {
         return is_same(e, first);
     }
-    is_refused(e, BAD_ENTRY)
+    is_refused(e, Refusal::BadEntry)
 }
 
-// The call with a 2 at a place; the last one has a shorter order too.
-fn with_two(l: Lent, which: usize) -> Lent {
-    if which < 6 {
-        return l;
+// The call with a 2.
+fn with_two(l: Lent, two: Two) -> Lent {
+    if two == Two::FirstInShortOrder {
+        return with_fault(l, Fault::Order);
     }
-    tried(l, 0)
+    l
 }
 
-// A call with a 2 at a place of the binary matrix.
+// Whether there is such a place in the binary matrix, and a call with a 2 there is right.
 fn try_two<W: Write>(
     out: &mut W,
-    n: usize,
     l: Lent,
     g: Sizes,
-    which: usize,
-    first: Answer,
+    two: Two,
     bits: &mut [u8],
-    octets: &[u8],
-    slab: &[u8],
-    solved: &[u8],
-    list: &[u64],
-    order: &[usize],
-    vector: &[u8],
-) -> io::Result<usize> {
-    let p = place(g, bits.len(), which);
+    first: First,
+) -> io::Result<bool> {
+    let p = place(g, bits.len(), two);
     if bits.len() <= p {
-        return Ok(n);
+        return Ok(false);
     }
     let old = bits[p];
     bits[p] = 2;
-    let e = again(
-        with_two(l, which),
-        bits,
-        octets,
-        slab,
-        solved,
-        list,
-        order,
-        vector,
-    );
+    let e = again(with_two(l, two), bits, first);
     bits[p] = old;
-    let a = e.answer;
-    count_at(
+    is_right_at(
         out,
-        n,
-        is_two_right(l.octet, which, e, first),
-        b"wrong two at ",
+        is_two_right(l.octet, two, e, first),
+        "two at",
         p,
-        a,
+        e.answer,
     )
 }
 
@@ -109,22 +93,14 @@ pub(crate) fn twos_right<W: Write>(
     out: &mut W,
     l: Lent,
     g: Sizes,
-    first: Answer,
     bits: &mut [u8],
-    octets: &[u8],
-    slab: &[u8],
-    solved: &[u8],
-    list: &[u64],
-    order: &[usize],
-    vector: &[u8],
+    first: First,
 ) -> io::Result<usize> {
-    let mut right = 0;
-    let mut which = 0;
-    while which < TWOS {
-        right = try_two(
-            out, right, l, g, which, first, bits, octets, slab, solved, list, order, vector,
-        )?;
-        which += 1;
+    let mut right = 0usize;
+    for two in TWOS {
+        if try_two(out, l, g, two, bits, first)? {
+            right = right.saturating_add(1);
+        }
     }
     Ok(right)
 }

@@ -36,7 +36,7 @@ use Rattle.phases.specs.ByPlace.{length_pivots_of}
 use Rattle.tally.specs.declared.Tally.{Tally}
 use Rattle.tally.specs.Book.{book}
 use Rattle.second.specs.Whole.{Prepared}
-use Rattle.call.specs.declared.Shape.{Shape}
+use Rattle.grid.specs.declared.shapes.Shape.{Shape}
 use Rattle.ending.specs.Scalars.{Scaled, one-scaled}
 use Rattle.ending.specs.Ran.{as_shape, Posed}
 use Rattle.ending.specs.Told.{posed_fit}
@@ -163,7 +163,7 @@ module _ (z : Shape) (bits octets : List ℕ) where
         (each_both (Within z.m) Scaled os one_within (one-scaled A ts fit.entries))
 
     pub prepared_is : (i : ℕ) (c d ws w scratch : List ℕ) (t : Tally) → First i c d ws t → t.used ≤ length ws → length c ≡ z.l → length d ≡ z.m
-        → length w ≡ z.m * z.l → length scratch ≡ z.l → Prepared z.m z.l z.s z.h i bits octets c d w scratch ws t
+        → length w ≡ z.m * z.l → length scratch ≡ z.l → Prepared z.m z.l z.s z.h i bits octets c d w scratch (book ws t)
     prepared_is i c d ws w scratch t F u lc ld lw ls =
         let k : length os ≤ length F.from = holds_short F.held (omega (arith, F.held.size)) in
         let n : t.used ≡ length os = holds_used F.held k in

@@ -9,8 +9,9 @@
 --   marked_is, third-is, chosen_is, fourth-is, fifth-is   what each of the last phases needs and leaves
 --   listing, ordering_is   what phases three and five need of the list room; what the order needs
 --   full-ending, solved_ending   the list has passed the room, or fits
+--   rest_length       phases three to five keep the length of the list's room
 -- Assumes nothing.
-use Rattle.std.specs.Prelude.{◌≡◌, ◌⊎◌, List, [], ◌∷◌, ◌++◌, map, ℕ, ◌+◌, ◌-◌, ◌*◌, ◌≤◌, ◌<◌, get_or, take, drop}
+use Rattle.std.specs.Prelude.{◌≡◌, ◌⊎◌, List, [], ◌∷◌, ◌++◌, map, ℕ, ◌+◌, ◌-◌, ◌*◌, ◌≤◌, ◌<◌, get_or, take, drop, Err, Ok}
 use Rattle.std.proofs.Math.Path.{refl, ap}
 use Rattle.std.proofs.Common.{sym, ap₂, ◌∙◌, subst, inl, inr, append_assoc, mul-le-mul_right, arith, take_at, drop_at}
 use Rattle.std.proofs.Math.Bool.{true, false}
@@ -25,14 +26,13 @@ use Rattle.oplist.specs.declared.Op.{Op}
 use Rattle.oplist.specs.declared.Op.TheVariants.{AddAssign, MulAssign, FMA}
 use Rattle.oplist.specs.Ops.{Each, each_map, dest}
 use Rattle.oplist.specs.Word.{packed}
-use Rattle.oplist.specs.Count.{adds, muls}
 use Rattle.oplist.specs.Facts.{Rows}
 use Rattle.algebra.specs.Rows.{Within, runs}
 use Rattle.algebra.specs.Flat.{Bytes}
 use Rattle.grid.specs.Grid.{Under, Figures}
 use Rattle.phases.specs.One.{Step, rows_of, pivots_of}
 use Rattle.phases.specs.Rest.{kept, last-first, phase_four, by-column}
-use Rattle.phases.specs.Run.{Run, whole, finish, second, Answer as Told, answer}
+use Rattle.phases.specs.Run.{Run, whole, finish, Answer as Told, answer}
 use Rattle.phases.specs.Occ.{occ-range, Member}
 use Rattle.phases.specs.Fit.{Fit, less?}
 use Rattle.phases.proofs.Combined.{combined_binary}
@@ -42,7 +42,7 @@ use Rattle.phases.specs.Forward.{Ended}
 use Rattle.phases.specs.Forward as Forward
 use Rattle.phases.proofs.Means.{ended, length-by-column}
 use Rattle.tally.specs.declared.Tally.{Tally}
-use Rattle.tally.specs.Book.{Book, book, note, anew}
+use Rattle.tally.specs.Book.{Book, book, note, anew, length-notes}
 use Rattle.rest.specs.Marks.{flag_of}
 use Rattle.rest.specs.Again.{third, fifth, Listing, listing_is, words_kept}
 use Rattle.rest.specs.Again as Again
@@ -50,9 +50,9 @@ use Rattle.rest.specs.Gather.{Chosen, fourth}
 use Rattle.rest.specs.Gather as Gather
 use Rattle.rest.specs.Columns.{Ordering, Blank, placed, placed-is, by-column-take}
 use Rattle.answers.specs.declared.Counts.{Counts}
-use Rattle.call.specs.declared.Shape.{Shape}
-use Rattle.answers.specs.declared.Answer.{Answer}
-use Rattle.answers.specs.declared.Answer.TheVariants.{Solved, ListFull}
+use Rattle.grid.specs.declared.shapes.Shape.{Shape}
+use Rattle.answers.specs.Answers.{Answer}
+use Rattle.answers.specs.declared.Refusal.TheVariants.{ListFull}
 use Rattle.call.specs.Over.{over, blank, after-over}
 use Rattle.call.specs.Call.{answer_of, told}
 use Rattle.ending.specs.Ran.{Posed}
@@ -295,7 +295,7 @@ module _ (z : Shape) (bits octets : List ℕ) (P : Posed z bits octets) (hb : By
     same_room = room-is ∙ R.size
 
     pub full-ending : (order : List ℕ) → length g₅.words < g₅.used → order ≡ blank order
-        → Ending (told (Z z bits octets) bits octets (length ws)) ListFull g₅.words order order
+        → Ending (told (Z z bits octets) bits octets (length ws)) (Err ListFull) g₅.words order order
     unfolding answer_of
     full-ending order h e =
         let l : length R.from < length (whole r) = holds_long stage_five.held (omega (arith, room-is)) in
@@ -305,7 +305,7 @@ module _ (z : Shape) (bits octets : List ℕ) (P : Posed z bits octets) (hb : By
     pub solved_ending : (order order' : List ℕ) (n : ℕ) (c₁ c₂ c₃ c₄ c₅ : Counts) → n ≤ length g₅.words → order ≡ blank order → z.l ≤ length order
         → order' ≡ placed (length c) c d order → n ≡ g₅.used → c₁ ≡ counts_of one.adds one.muls → c₂ ≡ counts_of two.adds two.muls
         → c₃ ≡ counts_of g₃.adds g₃.muls → c₄ ≡ counts_of g₄.adds g₄.muls → c₅ ≡ counts_of g₅.adds g₅.muls
-        → Ending (told (Z z bits octets) bits octets (length ws)) (Solved (record { operations = n; one = c₁; two = c₂; three = c₃; four = c₄; five = c₅ })) g₅.words order order'
+        → Ending (told (Z z bits octets) bits octets (length ws)) (Ok (record { operations = n; one = c₁; two = c₂; three = c₃; four = c₄; five = c₅ })) g₅.words order order'
     unfolding answer_of
     solved_ending order order' n c₁ c₂ c₃ c₄ c₅ h e k q u x₁ x₂ x₃ x₄ x₅ =
         let l : length (whole r) ≤ length R.from = holds_short stage_five.held (omega (arith, room-is)) in
@@ -344,3 +344,11 @@ module _ (z : Shape) (bits octets : List ℕ) (P : Posed z bits octets) (hb : By
           ordered = q ∙ order_is order k e;
           no_vector = refl;
         })
+
+-- the room keeps its length
+pub rest_length : (ms bits c d : List ℕ) (n l i : ℕ) (g₂ : Book) {g₃ g₄ g₅ : Book} → g₃ ≡ third ms n g₂ → g₄ ≡ fourth bits l i c d g₃ → g₅ ≡ fifth ms n g₄
+    → length g₅.words ≡ length g₂.words
+unfolding third fourth fifth
+rest_length ms bits c d n l i g₂ {g₃} {g₄} e₃ e₄ e₅ =
+    ap (λ (b : Book). length b.words) e₅ ∙ length-notes _ (anew g₄) ∙ ap (λ (b : Book). length b.words) e₄ ∙ length-notes _ (anew g₃)
+    ∙ ap (λ (b : Book). length b.words) e₃ ∙ length-notes _ (anew g₂)

@@ -14,9 +14,9 @@ use Rattle.oplist.specs.Word.{packed}
 use Rattle.tally.specs.declared.Tally.{Tally}
 use Rattle.phases.specs.System.{Shape as Defined}
 use Rattle.phases.specs.Run.{Answer as Told}
-use Rattle.answers.specs.declared.Answer.{Answer}
+use Rattle.answers.specs.Answers.{Answer}
 use Rattle.answers.specs.Answers.{report_in}
-use Rattle.call.specs.declared.Shape.{Shape}
+use Rattle.grid.specs.declared.shapes.Shape.{Shape}
 use Rattle.call.specs.Over.{over, blank}
 use Rattle.call.specs.Call.{entered, answer_of}
 

@@ -3,7 +3,7 @@
 --   valuing_is       what the vector needs
 --   stuck_full, stuck_ending   the list has passed the room, or fits
 -- Assumes nothing.
-use Rattle.std.specs.Prelude.{◌≡◌, refl, List, [], ◌++◌, ℕ, ◌+◌, ◌-◌, ◌*◌, ◌≤◌, ◌<◌, get_or, take, drop}
+use Rattle.std.specs.Prelude.{◌≡◌, refl, List, [], ◌++◌, ℕ, ◌+◌, ◌-◌, ◌*◌, ◌≤◌, ◌<◌, get_or, take, drop, Err}
 use Rattle.std.proofs.Common.{sym, ap₂, ◌∙◌, append-nil, arith, length-append, take_at, drop_at, length-take-le}
 use Rattle.std.proofs.Math.Path.{ap, subst}
 use Rattle.std.proofs.Math.Bool.{true, false}
@@ -27,9 +27,9 @@ use Rattle.second.specs.Store.{store_of}
 use Rattle.rest.specs.Columns.{placed, placed-is}
 use Rattle.rest.specs.Vector.{valued, valued-is}
 use Rattle.rest.specs.Vector as Vector
-use Rattle.call.specs.declared.Shape.{Shape}
-use Rattle.answers.specs.declared.Answer.{Answer}
-use Rattle.answers.specs.declared.Answer.TheVariants.{ListFull, Singular}
+use Rattle.grid.specs.declared.shapes.Shape.{Shape}
+use Rattle.answers.specs.Answers.{Answer}
+use Rattle.answers.specs.declared.Refusal.TheVariants.{ListFull, Singular}
 use Rattle.call.specs.Over.{over, blank}
 use Rattle.call.specs.Call.{answer_of, told}
 use Rattle.ending.specs.Ran.{as_shape, Posed, Ran}
@@ -129,19 +129,19 @@ module _ (z : Shape) (bits octets : List ℕ) (P : Posed z bits octets) (hb : By
   whole_long = ap length (append-nil (((O ++ S.f.ops) ++ []) ++ []) ∙ append-nil ((O ++ S.f.ops) ++ []) ∙ append-nil (O ++ S.f.ops))
 
   pub stuck_full : (order vector : List ℕ) {room : ℕ} → length ws ≡ room → length ws < two.used → order ≡ blank order → vector ≡ blank vector
-      → Ran (told (Z z bits octets) bits octets room) ListFull ws order vector order vector
+      → Ran (told (Z z bits octets) bits octets room) (Err ListFull) ws order vector order vector
   unfolding answer_of
   stuck_full order vector {room} er h a b =
       let l : length S.from < length (O ++ S.f.ops) = holds_long S.held (omega (arith, S.size)) in
       let f : ltb (length ws) (length (whole r)) ≡ true = lt-ltb (length ws) (length (whole r)) (omega (arith, S.size, whole_long)) in
-      subst (λ (k : ℕ). Ran (told (Z z bits octets) bits octets k) ListFull ws order vector order vector) er
+      subst (λ (k : ℕ). Ran (told (Z z bits octets) bits octets k) (Err ListFull) ws order vector order vector) er
       (rw (told-run (length ws), f) (record { is = refl; listed = refl; fits = omega arith; ordered = a; vectored = b }))
 
   pub stuck_ending : (order vector vector' : List ℕ) {room : ℕ} → length ws ≡ room → two.used ≤ length ws → order ≡ blank order → vector ≡ blank vector → z.l ≤ length vector
-      → vector' ≡ placed z.l c (valued w z.l d i q) vector → Ran (told (Z z bits octets) bits octets room) Singular ws order vector order vector'
+      → vector' ≡ placed z.l c (valued w z.l d i q) vector → Ran (told (Z z bits octets) bits octets room) (Err Singular) ws order vector order vector'
   unfolding answer_of
   stuck_ending order vector vector' {room} er h a b k e =
       let l : length (O ++ S.f.ops) ≤ length S.from = holds_short S.held (omega (arith, S.size)) in
       let f : ltb (length ws) (length (whole r)) ≡ false = le-ltb (length ws) (length (whole r)) (omega (arith, S.size, whole_long)) in
-      subst (λ (n : ℕ). Ran (told (Z z bits octets) bits octets n) Singular ws order vector order vector') er
+      subst (λ (n : ℕ). Ran (told (Z z bits octets) bits octets n) (Err Singular) ws order vector order vector') er
       (rw (told-run (length ws), f) (record { is = refl; listed = refl; fits = omega arith; ordered = a; vectored = e ∙ vector_is vector k b }))

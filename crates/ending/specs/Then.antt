@@ -4,7 +4,7 @@
 --   Stuck, stuck_is  phase two stopped at a column without pivot: its place, and what is left
 --   run_is           where V is empty, the defined run goes on to phase two
 -- Assumes nothing.
-use Rattle.std.specs.Prelude.{◌≡◌, refl, false, cond, List, [], ◌++◌, ℕ, ◌+◌, ◌-◌, ◌≤◌, length, take, drop}
+use Rattle.std.specs.Prelude.{◌≡◌, refl, false, cond, List, [], ◌++◌, ℕ, ◌+◌, ◌≤◌, length, take, drop, Result, Ok, Err, ⊤}
 use Rattle.std.proofs.Common.{sym, ap, ap₂, ◌∙◌, subst, arith, take-append-drop, take_at, drop_at}
 use Rattle.loops.specs.Room.{notes}
 use Rattle.loops.specs.Out.{Out}
@@ -19,14 +19,13 @@ use Rattle.phases.specs.Run.{second, refused, goes_on, defined}
 use Rattle.phases.specs.ByPlace.{length-rows_of, length_pivots_of}
 use Rattle.tally.specs.declared.Tally.{Tally}
 use Rattle.tally.specs.Book.{Book, book, note, anew}
-use Rattle.second.specs.declared.Elimination.{Elimination}
-use Rattle.second.specs.declared.Elimination.TheVariants.{Done, Singular}
+use Rattle.second.specs.declared.Singular.{Singular}
 use Rattle.second.specs.Store.{store_of}
 use Rattle.second.specs.Forward.{through, stopped}
 use Rattle.second.specs.Fill.{entries}
-use Rattle.second.specs.Whole.{finished, both, begun, Reduced}
+use Rattle.second.specs.Whole.{finished, both, begun, Reduced, reduced_length}
 use Rattle.rest.specs.Again.{words_kept}
-use Rattle.call.specs.declared.Shape.{Shape}
+use Rattle.grid.specs.declared.shapes.Shape.{Shape}
 use Rattle.ending.specs.Ran.{Posed}
 use Rattle.ending.specs.Journal.{Holds, Counted, holds_more, holds_short, holds_used, holds_words, holds-counts}
 use Rattle.ending.specs.After.{Z, A, p, ts, os, cols, rest, X, First, Reached, one_small}
@@ -103,10 +102,11 @@ module _ (z : Shape) (bits octets : List ℕ) where
     joined : (d : List ℕ) (ys : List ℕ) → take i d ≡ take i d₀ → drop i d ≡ ys → d ≡ rows_of (ts z bits octets) ++ ys
     joined d ys a b = sym (take-append-drop i d) ∙ ap₂ (λ (x y : List ℕ). x ++ y) (a ∙ tk) b
 
-    pub reached_is : {x : Elimination} {two : Tally} (w d ws : List ℕ) → x ≡ Done two → Reduced z.m z.l z.s z.h i bits octets c d₀ ws₀ t x w d ws → length ws ≡ length ws₀
+    pub reached_is : {x : Result ⊤ Singular} {two : Tally} (w d ws : List ℕ) → x ≡ Ok tt → Reduced z.m z.l z.s z.h i bits octets c d₀ (book ws₀ t) x w d (book ws two)
         → Reached z bits octets i c d ws t two
-    reached_is {x} {two} w d ws a Q e =
-        let R = subst (λ (y : Elimination). Reduced z.m z.l z.s z.h i bits octets c d₀ ws₀ t y w d ws) a Q in
+    reached_is {x} {two} w d ws a Q =
+        let e = reduced_length Q in
+        let R = subst (λ (y : Result ⊤ Singular). Reduced z.m z.l z.s z.h i bits octets c d₀ (book ws₀ t) y w d (book ws two)) a Q in
         let T = through i (anew (book ws₀ t)) (both (drop i c) (drop i d₀) (begun (entries z.m z.l z.s z.h bits octets) z.m (drop i c) (ops_of (take t.used ws₀)))) R.is in
         let N = went (forward (cols z bits octets) (rest z bits octets) (X z bits octets)) T.f (sym W_is ∙ T.way) in
         let g : book ws two ≡ notes note (anew (book ws₀ t)) (two_of N.f) = T.ran.list ∙ ap (notes note (anew (book ws₀ t))) N.ops in
@@ -131,10 +131,11 @@ module _ (z : Shape) (bits octets : List ℕ) where
           second = λ k. subst (λ (b : Book). Counted (two_of N.f) b.adds b.muls) (sym g) (holds-counts F.held (two_of N.f) k);
         }
 
-    pub stuck_is : {x : Elimination} {q : ℕ} {two : Tally} (w d ws : List ℕ) → x ≡ Singular q two → Reduced z.m z.l z.s z.h i bits octets c d₀ ws₀ t x w d ws → length ws ≡ length ws₀
+    pub stuck_is : {x : Result ⊤ Singular} {q : ℕ} {two : Tally} (w d ws : List ℕ) → x ≡ Err (record { place = q }) → Reduced z.m z.l z.s z.h i bits octets c d₀ (book ws₀ t) x w d (book ws two)
         → Stuck i q c d w ws two
-    stuck_is {x} {q} {two} w d ws a Q e =
-        let R = subst (λ (y : Elimination). Reduced z.m z.l z.s z.h i bits octets c d₀ ws₀ t y w d ws) a Q in
+    stuck_is {x} {q} {two} w d ws a Q =
+        let e = reduced_length Q in
+        let R = subst (λ (y : Result ⊤ Singular). Reduced z.m z.l z.s z.h i bits octets c d₀ (book ws₀ t) y w d (book ws two)) a Q in
         let T = stopped i (anew (book ws₀ t)) (both (drop i c) (drop i d₀) (begun (entries z.m z.l z.s z.h bits octets) z.m (drop i c) (ops_of (take t.used ws₀)))) R.is in
         let g : book ws two ≡ notes note (anew (book ws₀ t)) T.f.ops = T.ran.list in
         record {

@@ -24,7 +24,7 @@ use Rattle.phases.specs.Run.{Run, End, solved, no_pivot, singular, whole, define
 use Rattle.phases.specs.Fit.{Fit}
 use Rattle.phases.proofs.Combined.{combined_fit}
 use Rattle.phases.proofs.Answers.{solved_reduces}
-use Rattle.call.specs.declared.Shape.{Shape}
+use Rattle.grid.specs.declared.shapes.Shape.{Shape}
 use Rattle.call.specs.Call.{bitwise, entered, answer_of, told}
 use Rattle.ending.specs.Scalars.{Scaled, answer-scaled}
 use Rattle.ending.specs.Ran.{as_shape, Posed, ops_in}

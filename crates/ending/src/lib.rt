@@ -7,10 +7,10 @@ ghost use Rattle.ending.specs.Ran.{as_shape, Posed, Ran, Placed, Going};
 ghost use Rattle.ending.specs.After.{First, Reached};
 ghost use Rattle.ending.specs.Ends.{counts_of, Ending};
 
-use answers::{Answer, Counts, Report};
-use call::Shape;
-use second::Elimination;
-use tally::Tally;
+use answers::{Answer, Counts, Refusal, Report};
+use grid::{Grid, Shape};
+use second::Singular;
+use tally::{Journal, Tally};
 
 // What a phase counted, as it is reported.
 fn counts_of(t: Tally) -> Counts
@@ -31,28 +31,33 @@ fn finish(
     columns: &[usize],
     rows: &[usize],
     marks: &mut [usize],
-    list: &mut [u64],
+    journal: &mut Journal<'_>,
     order: &mut [usize],
     one: Tally,
-    two: Tally,
 ) -> Answer
     requires posed { Posed z bits.now octets.now }
-    requires reached { Reached z bits.now octets.now i columns.now rows.now list.old one two }
+    requires reached { Reached z bits.now octets.now i columns.now rows.now journal.old.room.now one journal.old.tally }
     requires placed { Placed z columns.now rows.now marks.old order.old }
-    ensures { Ending (told (as_shape z) bits.now octets.now (length list.old)) result list.new order.old order.new }
+    ensures same_room { journal.new.room.ghost_name ≡ journal.old.room.ghost_name }
+    ensures long { length journal.new.room.now ≡ length journal.old.room.now }
+    ensures ending { Ending (told (as_shape z) bits.now octets.now (length journal.old.room.now)) result journal.new.room.now order.old order.new }
 {
     let l = z.l;
     let n = one.used;
+    let two = journal.tally;
     rest::mark(marks, &rows[0..i]);
-    let three = rest::phase_three(list, marks, n, two);
-    let four = rest::phase_four(bits, l, i, columns, rows, list, three);
-    let five = rest::phase_five(list, marks, n, four);
+    rest::phase_three(journal, marks, n);
+    let three = journal.tally;
+    rest::phase_four(Grid { bits, l }, i, columns, rows, journal);
+    let four = journal.tally;
+    rest::phase_five(journal, marks, n);
+    let five = journal.tally;
     let used = five.used;
-    if list.len() < used {
-        return Answer::ListFull;
+    if journal.room.len() < used {
+        return Err(Refusal::ListFull);
     }
     rest::order_of(order, columns, rows);
-    Answer::Solved(Report {
+    Ok(Report {
         operations: used,
         one: counts_of(one),
         two: counts_of(two),
@@ -73,33 +78,29 @@ pub fn go_on(
     work: &mut [u8],
     scratch: &mut [u8],
     marks: &mut [usize],
-    list: &mut [u64],
+    journal: &mut Journal<'_>,
     order: &mut [usize],
     vector: &mut [u8],
-    one: Tally,
 ) -> Answer
     requires posed { Posed z bits.now octets.now }
-    requires first { First z bits.now octets.now i columns.now rows.old list.old one }
-    requires going { Going z columns.now rows.old work.old scratch.old marks.old list.old order.old vector.old one }
-    ensures { Ran (told (as_shape z) bits.now octets.now (length list.old)) result list.new order.old vector.old order.new vector.new }
+    requires first { First z bits.now octets.now i columns.now rows.old journal.old.room.now journal.old.tally }
+    requires going { Going z columns.now rows.old work.old scratch.old marks.old journal.old.room.now order.old vector.old journal.old.tally }
+    ensures same_room { journal.new.room.ghost_name ≡ journal.old.room.ghost_name }
+    ensures long { length journal.new.room.now ≡ length journal.old.room.now }
+    ensures ran { Ran (told (as_shape z) bits.now octets.now (length journal.old.room.now)) result journal.new.room.now order.old vector.old order.new vector.new }
 {
-    let m = z.m;
-    let l = z.l;
-    let s = z.s;
-    let h = z.h;
-    match second::phase_two(
-        bits, octets, m, l, s, h, i, columns, rows, work, scratch, list, one,
-    ) {
-        Elimination::Done(two) => finish(
-            z, i, bits, octets, columns, rows, marks, list, order, one, two,
+    let one = journal.tally;
+    match second::phase_two(bits, octets, z, i, columns, rows, work, scratch, journal) {
+        Ok(()) => finish(
+            z, i, bits, octets, columns, rows, marks, journal, order, one,
         ),
-        Elimination::Singular(q, two) => {
-            let used = two.used;
-            if list.len() < used {
-                return Answer::ListFull;
+        Err(Singular { place: q }) => {
+            let used = journal.tally.used;
+            if journal.room.len() < used {
+                return Err(Refusal::ListFull);
             }
-            rest::vector_of(work, l, columns, rows, i, q, vector);
-            Answer::Singular
+            rest::vector_of(work, z.l, columns, rows, i, q, vector);
+            Err(Refusal::Singular)
         }
     }
 }

@@ -9,13 +9,12 @@
 --   ended-none     the end, after a turn that found no row
 --   ended_spent    the end, where V has no column left
 --   Outcome        what phase one's answer says of a phase: after so many steps no column is left in V, or some are
---   outcome-one    two outcomes are equal: answer, columns, rows and list
---   turned_none, turned-some   what a turn's answer says: no row could be chosen and the state stands; one could, and the state is a step further
+--   outcome-one    two outcomes are equal: answer, columns, rows and journal
 --   same_cols, same_rows, same_ones, same_singles, same_labels   the slices keep their lengths from one state to another
 --   sum_fits       the steps and the inactive columns together are below 65,536
 -- Assumes nothing.
-use Rattle.std.specs.Prelude.{◌≡◌, refl, List, [], ◌∷◌, ◌++◌, ℕ, zero, suc, ◌+◌, ◌-◌, ◌*◌, ◌≤◌, ◌<◌, length}
-use Rattle.std.proofs.Common.{sym, ap, ap₂, subst, ◌∙◌, arith}
+use Rattle.std.specs.Prelude.{◌≡◌, refl, Result, Ok, Err, List, [], ◌∷◌, ◌++◌, ℕ, zero, suc, ◌+◌, ◌-◌, ◌*◌, ◌≤◌, ◌<◌, length}
+use Rattle.std.proofs.Common.{sym, ap, subst, ◌∙◌, arith}
 use Rattle.std.proofs.Math.Option.{some, none}
 use Rattle.loops.specs.Loop.{for_next}
 use Rattle.loops.specs.Entry.{entry_at}
@@ -24,16 +23,11 @@ use Rattle.rule.specs.Permitted.{count}
 use Rattle.phases.specs.System.{Shape, combined, octet_rows}
 use Rattle.phases.specs.One.{Step, Phase, rows_of, pivots_of, one, begin, taking, step, phase_one, ops_one}
 use Rattle.phases.proofs.Walk.{none_exactly}
-use Rattle.tally.specs.declared.Tally.{Tally}
-use Rattle.tally.specs.Book.{Book, book, Fair}
+use Rattle.tally.specs.Book.{Book, Fair}
 use Rattle.clearing.specs.Clear.{Listed, listed-none, listed_then}
 use Rattle.stepping.specs.Stands.{Given, Standing, At, row_at, cols_long}
-use Rattle.stepping.specs.declared.State.{State}
-use Rattle.stepping.specs.declared.Made.{Made}
-use Rattle.stepping.specs.declared.Made.TheVariants.{Stepped, Nothing}
-use Rattle.stepping.specs.Turns.{Turned}
-use Rattle.firstphase.specs.declared.First.{First}
-use Rattle.firstphase.specs.declared.First.TheVariants.{Done, NoPivot}
+use Rattle.firstphase.specs.declared.Done.{Done}
+use Rattle.firstphase.specs.declared.NoPivot.{NoPivot}
 use Rattle.firstphase.specs.Clears.{Clear, step_ops, clear_ready, ops_next}
 
 abbrev pub list_at : Shape → List ℕ → List ℕ → ℕ → List Op
@@ -110,33 +104,21 @@ module _ {z : Shape} {bits octs : List ℕ} {g₀ : Book} {n₀ : ℕ} {c d ones
   spent k = (none_exactly z (entry_at z.n bits) v.fit (At z bits i) h.standing.walked).1
       (λ x m. none_left (At z bits i).now.cols x (omega (arith, cols_long v h.standing)))
 
-abbrev pub Outcome : Shape → List ℕ → List ℕ → Phase → Book → List ℕ → List ℕ → List ℕ → First → Type 0
-Outcome z bits octs p g₀ c d list (Done i t) = Ended z bits octs p g₀ c d (book list t) × (i ≡ length p.steps) × (length p.now.cols ≡ 0)
-Outcome z bits octs p g₀ c d list (NoPivot t) = Ended z bits octs p g₀ c d (book list t) × (0 < length p.now.cols)
-
-abbrev tally_of : Book → Tally
-tally_of g = record { used = g.used; adds = g.adds; muls = g.muls }
+abbrev pub Outcome : Shape → List ℕ → List ℕ → Phase → Book → List ℕ → List ℕ → Book → Result Done NoPivot → Type 0
+Outcome z bits octs p g₀ c d g (Ok r) = Ended z bits octs p g₀ c d g × (r.steps ≡ length p.steps) × (length p.now.cols ≡ 0)
+Outcome z bits octs p g₀ c d g (Err _) = Ended z bits octs p g₀ c d g × (0 < length p.now.cols)
 
 module _ (z : Shape) (bits octs : List ℕ) (p : Phase) (g₀ : Book) {c d c' d' : List ℕ} where
   same_slices : {g g' : Book} → Ended z bits octs p g₀ c d g → Ended z bits octs p g₀ c' d' g' → (c ≡ c') × (d ≡ d') × (g ≡ g')
   same_slices a b = (a.cols ∙ sym b.cols, a.rows ∙ sym b.rows, a.listed.is ∙ sym b.listed.is)
 
-  pub outcome-one : {list list' : List ℕ} (r r' : First) → Outcome z bits octs p g₀ c d list r → Outcome z bits octs p g₀ c' d' list' r' → (r ≡ r') × (c ≡ c') × (d ≡ d') × (list ≡ list')
-  outcome-one (Done i t) (Done j s) a b =
+  pub outcome-one : {g g' : Book} (r r' : Result Done NoPivot) → Outcome z bits octs p g₀ c d g r → Outcome z bits octs p g₀ c' d' g' r' → (r ≡ r') × (c ≡ c') × (d ≡ d') × (g ≡ g')
+  outcome-one (Ok r) (Ok q) a b =
       let e = same_slices a.0 b.0 in
-      (ap₂ Done (a.1 ∙ sym b.1) (ap tally_of e.2), e.0, e.1, ap (λ (g : Book). g.words) e.2)
-  outcome-one (NoPivot t) (NoPivot s) a b = let e = same_slices a.0 b.0 in (ap NoPivot (ap tally_of e.2), e.0, e.1, ap (λ (g : Book). g.words) e.2)
-  outcome-one (Done i t) (NoPivot s) a b = absurd (omega (arith, a.2, b.1))
-  outcome-one (NoPivot t) (Done i s) a b = absurd (omega (arith, a.1, b.2))
-
--- a turn's answer, by its case
-pub turned_none : {z : Shape} {bits : List ℕ} (st : State) {c d ones s labels : List ℕ} {r : Made} → r ≡ Nothing → Turned z bits st c d ones s labels r
-    → (row_at z bits st.i ≡ none) × Standing z bits c d ones s labels st.i st.u st.singles st.next
-turned_none {z} {bits} st {c} {d} {ones} {s} {labels} e t = subst (λ (r : Made). Turned z bits st c d ones s labels r) e t
-
-pub turned-some : {z : Shape} {bits : List ℕ} (st : State) {c d ones s labels : List ℕ} {r : Made} (q : State) → r ≡ Stepped q → Turned z bits st c d ones s labels r
-    → (q.i ≡ st.i + 1) × Standing z bits c d ones s labels q.i q.u q.singles q.next × ((x : ℕ) × (row_at z bits st.i ≡ some x))
-turned-some {z} {bits} st {c} {d} {ones} {s} {labels} q e t = subst (λ (r : Made). Turned z bits st c d ones s labels r) e t
+      (ap (λ (i : ℕ). Ok (record { steps = i })) (a.1 ∙ sym b.1), e.0, e.1, e.2)
+  outcome-one (Err r) (Err q) a b = let e = same_slices a.0 b.0 in (refl, e.0, e.1, e.2)
+  outcome-one (Ok r) (Err q) a b = absurd (omega (arith, a.2, b.1))
+  outcome-one (Err r) (Ok q) a b = absurd (omega (arith, a.1, b.2))
 
 -- the lengths stay
 pub same_cols : {z : Shape} {bits : List ℕ} {c d ones s labels c' d' ones' s' labels' : List ℕ} {i u n next i' u' n' next' : ℕ}
@@ -162,10 +144,10 @@ same_labels a b = b.labelled ∙ sym a.labelled
 module _ {z : Shape} {bits octs : List ℕ} {g₀ : Book} {n₀ : ℕ} {c d ones s labels sizes : List ℕ} {i u n next : ℕ} {g : Book} (v : Given z bits)
     (h : Looping z bits octs g₀ n₀ c d ones s labels sizes i u n next g) where
   -- a turn that found no row
-  pub ended-none : {c' d' ones' s' labels' : List ℕ} → (row_at z bits i ≡ none) × Standing z bits c' d' ones' s' labels' i u n next → i + u < z.n
+  pub ended-none : {c' d' ones' s' labels' : List ℕ} {n' next' : ℕ} → (row_at z bits i ≡ none) × Standing z bits c' d' ones' s' labels' i u n' next' → i + u < z.n
       → Ended z bits octs (phase_one (entry_at z.n bits) z) g₀ c' d' g × (0 < length (phase_one (entry_at z.n bits) z).now.cols)
-  ended-none {c'} {d'} {ones'} {s'} {labels'} t k =
-      let a : Looping z bits octs g₀ n₀ c' d' ones' s' labels' sizes i u n next g = record { standing = t.1; listed = h.listed; room = h.room } in
+  ended-none {c'} {d'} {ones'} {s'} {labels'} {n'} {next'} t k =
+      let a : Looping z bits octs g₀ n₀ c' d' ones' s' labels' sizes i u n' next' g = record { standing = t.1; listed = h.listed; room = h.room } in
       (ended v a t.0, omega (arith, left_are v a t.0))
 
   pub ended_spent : z.n ≤ i + u

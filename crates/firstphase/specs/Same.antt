@@ -3,7 +3,7 @@
 --   phase_same          phase one over the combined matrix is phase one over the binary one
 --   whole               what phase one's answer says of the binary matrix, it says of the combined one
 -- Assumes nothing.
-use Rattle.std.specs.Prelude.{◌≡◌, refl, ◌⊎◌, List, [], ◌∷◌, ◌++◌, Bool, true, false, cond, ◌&&◌, ℕ, zero, suc, ◌+◌, ◌-◌, ◌<◌, length, take, drop, eqb, ltb}
+use Rattle.std.specs.Prelude.{◌≡◌, refl, Result, List, [], ◌∷◌, ◌++◌, Bool, true, false, cond, ◌&&◌, ℕ, zero, suc, ◌-◌, ◌<◌, length, take, drop, eqb, ltb}
 use Rattle.std.proofs.Common.{sym, ap, ap₂, subst, ◌∙◌, inl, inr, ⊎_elim, add-one, arith}
 use Rattle.std.proofs.Math.Path.{fun_ext}
 use Rattle.std.proofs.Math.Option.{Option, some, none}
@@ -28,7 +28,8 @@ use Rattle.phases.proofs.Walk.{walked, permitted}
 use Rattle.clearing.specs.Clear.{outside}
 use Rattle.stepping.specs.Stands.{Given}
 use Rattle.tally.specs.Book.{Book}
-use Rattle.firstphase.specs.declared.First.{First}
+use Rattle.firstphase.specs.declared.Done.{Done}
+use Rattle.firstphase.specs.declared.NoPivot.{NoPivot}
 use Rattle.firstphase.specs.Ended.{Outcome}
 
 least_from_lem : (k k' : ℕ → ℕ) (l : List ℕ) (b : ℕ) → k b ≡ k' b → ((x : ℕ) → In x l → k x ≡ k' x) → least_from k b l ≡ least_from k' b l
@@ -214,6 +215,6 @@ module _ (z : Shape) (bits octs : List ℕ) (g : Given z bits) where
   phase_same = phase_after_same z.n
 
 -- so phase one's answer says the same of both
-pub whole : (z : Shape) (bits octs : List ℕ) (g₀ : Book) (c d list : List ℕ) (r : First) → Given z bits → Outcome z bits octs (phase_one (entry_at z.n bits) z) g₀ c d list r
-    → Outcome z bits octs (phase_one (combined z bits octs) z) g₀ c d list r
-whole z bits octs g₀ c d list r g o = subst (λ (p : Phase). Outcome z bits octs p g₀ c d list r) (sym (phase_same z bits octs g)) o
+pub whole : (z : Shape) (bits octs : List ℕ) (g₀ : Book) (c d : List ℕ) (g : Book) (r : Result Done NoPivot) → Given z bits → Outcome z bits octs (phase_one (entry_at z.n bits) z) g₀ c d g r
+    → Outcome z bits octs (phase_one (combined z bits octs) z) g₀ c d g r
+whole z bits octs g₀ c d g r v o = subst (λ (p : Phase). Outcome z bits octs p g₀ c d g r) (sym (phase_same z bits octs v)) o

@@ -3,7 +3,7 @@
 
 ghost use Rattle.std.specs.Prelude.{◌≡◌, ℕ, ◌+◌, ◌*◌, ◌≤◌, length};
 ghost use Rattle.loops.specs.Entry.{entry_at};
-ghost use Rattle.tally.specs.Book.{book, Fair};
+ghost use Rattle.tally.specs.Book.{book_of, Fair};
 ghost use Rattle.clearing.specs.Clear.{Listed};
 ghost use Rattle.stepping.specs.Turns.{as_shape};
 ghost use Rattle.figures.specs.Told.{told};
@@ -14,15 +14,21 @@ ghost use Rattle.firstphase.specs.Clears.{Clear, step_ops};
 ghost use Rattle.firstphase.specs.Ended.{Outcome};
 ghost use Rattle.firstphase.specs.Begins.{Lent};
 
-use stepping::{Made, Shape, State};
-use tally::Tally;
+use grid::Grid;
+use labels::Labels;
+use singles::Singles;
+use stepping::{Shape, State};
+use tally::Journal;
 
-// How phase one ends: after so many steps V is empty, or no eligible row has a one in it.
-#[derive(Clone, Copy)]
-pub enum First {
-    Done(usize, Tally),
-    NoPivot(Tally),
+// Phase one is done, after so many steps: V is empty.
+#[derive(Debug, Clone, Copy, PartialEq, Eq)]
+pub struct Done {
+    pub steps: usize,
 }
+
+// Phase one stops before V is empty: no eligible row has a one in it.
+#[derive(Debug, Clone, Copy, PartialEq, Eq)]
+pub struct NoPivot;
 
 // The row at place i, chosen last, is added to the rows below it with a nonzero in its column.
 fn clear_step(
@@ -32,20 +38,19 @@ fn clear_step(
     i: usize,
     c: &[usize],
     d: &[usize],
-    list: &mut [u64],
-    t: Tally,
-) -> Tally
+    journal: &mut Journal<'_>,
+)
     requires clear { Clear (as_shape z) bits.now octets.now i c.now d.now }
-    requires fair { Fair (book list.old t) }
-    ensures { Listed (book list.old t) (step_ops (as_shape z) bits.now octets.now i c.now d.now) (book list.new result) }
+    requires fair { Fair (book_of journal.old) }
+    ensures same_room { journal.new.room.ghost_name ≡ journal.old.room.ghost_name }
+    ensures listed { Listed (book_of journal.old) (step_ops (as_shape z) bits.now octets.now i c.now d.now) (book_of journal.new) }
 {
-    let l = z.l;
-    let top = z.m - z.h;
+    let g = Grid { bits, l: z.l };
     let q = c[i];
     let x = d[i];
-    let a = i + 1;
-    let first = clearing::clear_rows(bits, l, q, x, &d[a..top], list, t);
-    clearing::clear_octets(octets, l, z.s, z.h, q, x, list, first)
+    let below = &d[i + 1..z.m - z.h];
+    clearing::clear_rows(g, q, x, below, journal);
+    clearing::clear_octets(octets, z.l, z.s, z.h, q, x, journal);
 }
 
 // Steps are made until V is empty or no row can be chosen.
@@ -57,37 +62,28 @@ fn steps(
     d: &mut [usize],
     ones: &mut [usize],
     deg: &[usize],
-    s: &mut [usize],
-    labels: &mut [usize],
+    singles: &mut Singles<'_>,
+    labels: &mut Labels<'_>,
     sizes: &mut [usize],
-    list: &mut [u64],
+    journal: &mut Journal<'_>,
     first: State,
-    t: Tally,
-) -> First
+) -> Result<Done, NoPivot>
     requires given { Given (as_shape z) bits.now }
-    requires standing { Standing (as_shape z) bits.now c.old d.old ones.old s.old labels.old first.i first.u first.singles first.next }
+    requires standing { Standing (as_shape z) bits.now c.old d.old ones.old singles.old.room.now labels.old.of.now first.i first.u singles.old.used labels.old.next }
     requires deg_len { (length deg.now ≡ z.m) × ((x : ℕ) → told deg.now x ≡ degree (entry_at z.l bits.now) (as_shape z) x) × (z.l + z.l + 1 ≤ length sizes.old) }
-    requires i_value { (first.i ≡ 0) × (z.h * z.l ≤ length octets.now) × (Fair (book list.old t)) }
-    ensures { Outcome (as_shape z) bits.now octets.now (phase_one (entry_at z.l bits.now) (as_shape z)) (book list.old t) c.new d.new list.new result }
+    requires i_value { (first.i ≡ 0) × (z.h * z.l ≤ length octets.now) × (Fair (book_of journal.old)) }
+    ensures same_room { journal.new.room.ghost_name ≡ journal.old.room.ghost_name }
+    ensures outcome { Outcome (as_shape z) bits.now octets.now (phase_one (entry_at z.l bits.now) (as_shape z)) (book_of journal.old) c.new d.new (book_of journal.new) result }
 {
-    let l = z.l;
     let mut st = first;
-    let mut r = t;
-    while st.i + st.u < l {
+    while st.i + st.u < z.l {
         let i = st.i;
-        let made = stepping::turn(bits, z, c, d, ones, deg, s, labels, sizes, st);
-        match made {
-            Made::Nothing => {
-                return First::NoPivot(r);
-            }
-            Made::Stepped(next) => {
-                r = clear_step(bits, octets, z, i, c, d, list, r);
-                st = next;
-            }
-        }
+        let turned = stepping::turn(bits, z, c, d, ones, deg, singles, labels, sizes, st);
+        let next = turned.ok_or(NoPivot)?;
+        clear_step(bits, octets, z, i, c, d, journal);
+        st = next;
     }
-    let i = st.i;
-    First::Done(i, r)
+    Ok(Done { steps: st.i })
 }
 
 // Phase one over the lent, unchanged matrix: c and d become the columns and rows by place, and its list is recorded.
@@ -102,24 +98,32 @@ pub fn phase_one(
     s: &mut [usize],
     labels: &mut [usize],
     sizes: &mut [usize],
-    list: &mut [u64],
-    t: Tally,
-) -> First
+    journal: &mut Journal<'_>,
+) -> Result<Done, NoPivot>
     requires given { Given (as_shape z) bits.now }
     requires lent { Lent (as_shape z) (length octets.now) (length c.old) (length d.old) (length ones.old) (length deg.old) (length s.old) (length labels.old) (length sizes.old) }
-    requires fair { Fair (book list.old t) }
-    ensures { Outcome (as_shape z) bits.now octets.now (phase_one (combined (as_shape z) bits.now octets.now) (as_shape z)) (book list.old t) c.new d.new list.new result }
+    requires fair { Fair (book_of journal.old) }
+    ensures same_room { journal.new.room.ghost_name ≡ journal.old.room.ghost_name }
+    ensures outcome { Outcome (as_shape z) bits.now octets.now (phase_one (combined (as_shape z) bits.now octets.now) (as_shape z)) (book_of journal.old) c.new d.new (book_of journal.new) result }
 {
-    let begun = opening::start(
-        bits, z.m, z.l, z.s, z.h, z.w, c, d, ones, deg, s, labels, sizes,
-    );
-    let first = State {
-        i: 0,
-        u: z.l - z.w,
-        singles: begun.singles,
-        next: begun.next,
+    let mut labels = Labels {
+        of: labels,
+        next: 1,
     };
+    let mut singles = opening::start(bits, z, c, d, ones, deg, s, &mut labels, sizes);
+    let first = State { i: 0, u: z.l - z.w };
     steps(
-        bits, octets, z, c, d, ones, deg, s, labels, sizes, list, first, t,
+        bits,
+        octets,
+        z,
+        c,
+        d,
+        ones,
+        deg,
+        &mut singles,
+        &mut labels,
+        sizes,
+        journal,
+        first,
     )
 }

@@ -1,86 +1,42 @@
 // Reads lines of a name and the bytes of a form in hexadecimal, and writes after each line what is shown of the form, quoted by `> `.
 #![tactic(auto)]
 
-ghost use Rattle.std.specs.Prelude.{◌≤◌, ◌<◌, length, IfOk};
+ghost use Rattle.std.specs.Prelude.{◌≤◌, ◌<◌, length};
 
 use std::io;
-use std::io::Read;
 
-// Reads until the room is full or the input ends, and answers how many bytes stand at the room's front.
-fn read_full(input: &mut impl Read, room: &mut [u8]) -> io::Result<usize>
-    ensures { IfOk result (λ n. n ≤ length room.new) }
-{
-    let mut done = 0;
-    while done < room.len() {
-        let n = input.read(&mut room[done..])?;
-        if n == 0 {
-            break;
-        }
-        done += n;
-    }
-    Ok(done)
-}
-
+// The number that a digit says, or 0.
 fn nibble(c: u8) -> u8
     ensures { result < 16 }
 {
-    if c < 48 {
-        return 0;
+    match c {
+        b'0'..=b'9' => c - b'0',
+        b'a'..=b'f' => c - b'a' + 10,
+        _ => 0,
     }
-    if c < 58 {
-        return c - 48;
-    }
-    if c < 97 {
-        return 0;
-    }
-    if c < 103 {
-        return c - 87;
-    }
-    0
 }
 
-// Where the line from `from` on ends.
-fn line_end(text: &[u8], from: usize) -> usize
-    requires { from ≤ length text.now }
-    ensures { (from ≤ result) × (result ≤ length text.now) }
-{
-    let mut k = from;
-    while k < text.len() {
-        if text[k] == b'\n' {
-            return k;
-        }
-        k += 1;
+// The last word of a line.
+fn last_word(line: &[u8]) -> &[u8] {
+    match line.iter().rposition(|c| *c == b' ') {
+        Some(k) => &line[k + 1..],
+        None => line,
     }
-    k
-}
-
-// Where the last word of a line begins.
-fn last_word(line: &[u8]) -> usize
-    ensures { result ≤ length line.now }
-{
-    let mut k = line.len();
-    while 0 < k {
-        if line[k - 1] == b' ' {
-            return k;
-        }
-        k -= 1;
-    }
-    k
 }
 
 // The bytes that pairs of digits say, as many as the room takes.
 fn unhex(digits: &[u8], out: &mut [u8]) -> usize
     ensures { result ≤ length out.new }
 {
-    let mut k = 0;
-    while k < out.len() {
-        if digits.len() / 2 <= k {
-            return k;
-        }
-        out[k] = nibble(digits[2 * k]) * 16 + nibble(digits[2 * k + 1]);
-        k += 1;
+    for (byte, pair) in out.iter_mut().zip(digits.chunks_exact(2)) {
+        *byte = nibble(pair[0]) * 16 + nibble(pair[1]);
     }
-    k
+    out.len().min(digits.len() / 2)
+}
+
+// A line without its end.
+fn trimmed(line: &[u8]) -> &[u8] {
+    line.strip_suffix(b"\n").unwrap_or(line)
 }
 
 fn put_line(rt: &impl Print, line: &[u8]) -> io::Result<()> {
@@ -90,52 +46,29 @@ fn put_line(rt: &impl Print, line: &[u8]) -> io::Result<()> {
 
 // Each line of a text, quoted.
 fn put_quoted(rt: &impl Print, text: &[u8]) -> io::Result<()> {
-    let mut at = 0;
-    while at < text.len() {
-        let end = line_end(text, at);
-        put_quote(rt, &text[at..end])?;
-        at = end + 1;
-    }
-    Ok(())
-}
-
-fn put_quote(rt: &impl Print, line: &[u8]) -> io::Result<()> {
-    rt.write_all(b"> ")?;
-    put_line(rt, line)
-}
-
-fn put_first(rt: &impl Print, text: &[u8], n: usize) -> io::Result<()> {
-    if n <= text.len() {
-        put_quoted(rt, &text[0..n])?;
+    for line in text.split_inclusive(|c| *c == b'\n') {
+        rt.write_all(b"> ")?;
+        put_line(rt, trimmed(line))?;
     }
     Ok(())
 }
 
 fn show_line(rt: &impl Print, line: &[u8]) -> io::Result<()> {
     put_line(rt, line)?;
-    let from = last_word(line);
     let mut form = [0u8; 512];
-    let n = unhex(&line[from..], &mut form);
+    let n = unhex(last_word(line), &mut form);
     let mut list = [0u64; 128];
     let mut order = [0usize; 256];
     let mut out = [0u8; 4096];
-    let k = shown::show(&form[0..n], &mut list, &mut order, &mut out);
-    put_first(rt, &out, k)
-}
-
-fn show_all(rt: &impl Print, text: &[u8]) -> io::Result<()> {
-    let mut at = 0;
-    while at < text.len() {
-        let end = line_end(text, at);
-        show_line(rt, &text[at..end])?;
-        at = end + 1;
-    }
-    Ok(())
+    let k = shown::show(&form[..n], &mut list, &mut order, &mut out);
+    put_quoted(rt, out.get(..k).unwrap_or(&[]))
 }
 
 fn main(rt: HostRuntime) -> io::Result<()> {
     let mut text = [0u8; 8192];
-    let mut input = rt.reader();
-    let n = read_full(&mut input, &mut text)?;
-    show_all(&rt, &text[..n])
+    let n = reading::read_full(&mut rt.reader(), &mut text)?;
+    for line in text[..n].split_inclusive(|c| *c == b'\n') {
+        show_line(&rt, trimmed(line))?;
+    }
+    Ok(())
 }

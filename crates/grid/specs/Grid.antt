@@ -5,19 +5,16 @@
 --   Figures f n xs    xs has n entries, and entry x is f x
 --   figures_one       two lists that meet it are equal
 --   gone              nothing is left of a list from its end on
---   Counting          n ones of row x are counted in the first k columns of v
---   count-start, count-one, count_none, count_end   that begins, passes a one, passes a column without, is over
+--   passing           what the library's `filter` leaves is what the rule's leaves
 --   Filled            the figures below i are in place
---   fill_start, fill_next, fill_end   that begins, puts one more in place, is over
---   fill_row          the row of the next figure lies within the matrix
---   in_under          a member of a list whose numbers are all below m is below m
+--   in_under, under_item   a member of a list whose numbers are all below m is below m, named by itself or by its place
 -- Assumes nothing.
-use Rattle.std.specs.Prelude.{◌≡◌, refl, List, [], ◌∷◌, Bool, true, false, ℕ, suc, ◌+◌, ◌*◌, ◌≤◌, ◌<◌, length, get_or, set, drop, eqb}
-use Rattle.std.proofs.Common.{sym, ◌∙◌, inl, inr, arith, length-set, drop_of_length-le, get_or-set_same, get_or-set_other, ext_get_or, below_more}
-use Rattle.loops.specs.Part.{drop-next, row_within}
+use Rattle.std.specs.Prelude.{◌≡◌, refl, List, [], ◌∷◌, Bool, true, false, cond, ℕ, suc, ◌+◌, ◌*◌, ◌≤◌, ◌<◌, length, get_or, drop, eqb}
+use Rattle.std.specs.List.{filter}
+use Rattle.std.proofs.Common.{sym, ap, ◌∙◌, inl, inr, arith, drop_of_length-le, ext_get_or}
+use Rattle.std.proofs.lemmas.Grind.{get_or_default_zero}
 use Rattle.loops.specs.Entry.{entry_at}
-use Rattle.rule.specs.Lists.{In}
-use Rattle.rule.specs.Permitted.{count}
+use Rattle.rule.specs.Lists.{In, filter as kept_of, keep}
 
 unfoldable pub bit : ℕ → List ℕ → ℕ → ℕ → Bool
 bit l m x q = eqb (entry_at l m x q) 1
@@ -39,28 +36,14 @@ figures_one {f} {n} {xs} {ys} p q =
 pub gone : (ys : List ℕ) (k : ℕ) → length ys ≤ k → drop k ys ≡ []
 gone ys k h = drop_of_length-le ys h
 
--- n ones of row x are counted in the first k columns of v
-pub record Counting (row : ℕ → ℕ → Bool) (x : ℕ) (v : List ℕ) (n k : ℕ) : Type 0 where
-  pub within : k ≤ length v
-  pub few : n ≤ k
-  pub left : n + count row (drop k v) x ≡ count row v x
-
-pub count-start : {row : ℕ → ℕ → Bool} {x : ℕ} {v : List ℕ} → Counting row x v 0 0
-count-start = record { within = omega arith; few = omega arith; left = omega arith }
-
-module _ {row : ℕ → ℕ → Bool} {x : ℕ} {v : List ℕ} {n k : ℕ} where
-  pub count-one : Counting row x v n k → k < length v → row x (get_or v k 0) ≡ true → Counting row x v (n + 1) (k + 1)
-  count-one c h e =
-      let s : count row (drop k v) x ≡ count row (drop (k + 1) v) x + 1 = rw (drop-next v k h, e) (omega arith) in
-      record { within = omega arith; few = omega (arith, c.few); left = omega (arith, c.left) }
-
-  pub count_none : Counting row x v n k → k < length v → row x (get_or v k 0) ≡ false → Counting row x v n (k + 1)
-  count_none c h e =
-      let s : count row (drop k v) x ≡ count row (drop (k + 1) v) x = rw (drop-next v k h, e) in
-      record { within = omega arith; few = omega (arith, c.few); left = omega (arith, c.left) }
-
-  pub count_end : Counting row x v n k → length v ≤ k → n ≡ count row v x
-  count_end c h = let s : count row (drop k v) x ≡ 0 = rw (gone v k h) in omega (arith, c.left)
+-- what the library's `filter` leaves is what the rule's leaves
+pub passing : (p : ℕ → Bool) (l : List ℕ) → filter p l ≡ kept_of p l
+passing p [] = refl
+passing p (a ∷ l) = go (p a) (passing p l)
+  where
+    go : (b : Bool) → filter p l ≡ kept_of p l → cond b (a ∷ filter p l) (filter p l) ≡ keep b a (kept_of p l)
+    go true i = ap (λ (t : List ℕ). a ∷ t) i
+    go false i = i
 
 -- the figures below i are in place
 pub record Filled (f : ℕ → ℕ) (n i : ℕ) (xs : List ℕ) : Type 0 where
@@ -68,21 +51,8 @@ pub record Filled (f : ℕ → ℕ) (n i : ℕ) (xs : List ℕ) : Type 0 where
   pub within : i ≤ n
   pub each : (x : ℕ) → x < i → get_or xs x 0 ≡ f x
 
-pub fill_start : (f : ℕ → ℕ) (xs : List ℕ) → Filled f (length xs) 0 xs
-fill_start f xs = record { long = refl; within = omega arith; each = λ x h. absurd (omega arith) }
-
-pub fill_next : {f : ℕ → ℕ} {n i : ℕ} {xs : List ℕ} {v : ℕ} → Filled f n i xs → i < length xs → v ≡ f i → Filled f n (i + 1) (set xs i v)
-fill_next {f} {n} {i} {xs} {v} h l e = record {
-  long = length-set xs i v ∙ h.long;
-  within = omega (arith, h.long);
-  each = below_more _ _ (λ x k. get_or-set_other xs i x v 0 (λ q. omega arith) ∙ h.each x k) (get_or-set_same xs i v 0 l ∙ e);
-}
-
-pub fill_end : {f : ℕ → ℕ} {n i : ℕ} {xs : List ℕ} → Filled f n i xs → length xs ≤ i → Figures f n xs
-fill_end h l = record { long = h.long; each = λ x k. h.each x (omega (arith, h.long)) }
-
-pub fill_row : {f : ℕ → ℕ} {n i : ℕ} {xs : List ℕ} (l size : ℕ) → Filled f n i xs → i < length xs → n * l ≤ size → i * l + l ≤ size
-fill_row {f} {n} {i} {xs} l size h k e = omega (arith, row_within l n i (omega (arith, h.long)))
+pub under_item : {n : ℕ} {xs : List ℕ} → Under n xs → (k : ℕ) → k < length xs → {x : ℕ} → x ≡ get_or xs k x → x < n
+under_item {n} {xs} u k h {x} e = omega (arith, u.at k h, e, get_or_default_zero xs k x h)
 
 -- by members rather than places
 pub in_under : {m : ℕ} (v : List ℕ) → Under m v → (x : ℕ) → In x v → x < m

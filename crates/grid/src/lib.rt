@@ -1,44 +1,43 @@
 // The lent binary matrix: an entry, and a row's ones; and zeros in a lent slice.
 #![tactic(auto)]
 
+mod shapes;
+
 ghost use Rattle.std.specs.Prelude.{◌≡◌, ◌+◌, ◌*◌, ◌≤◌, ◌<◌, length};
 ghost use Rattle.rule.specs.Permitted.{count as ones};
 ghost use Rattle.grid.specs.Grid.{bit, Under, Figures};
 
-// Whether row x has a one in column q.
-pub fn has(bits: &[u8], l: usize, x: usize, q: usize) -> bool
-    requires { (x * l + l ≤ length bits.now) × (q < l) }
-    ensures { result ≡ bit l bits.now x q }
-{
-    let k = x * l + q;
-    bits[k] == 1
+pub use shapes::Shape;
+
+// The matrix as it is lent: rows of l columns, one after another.
+#[derive(Clone, Copy)]
+pub struct Grid<'a> {
+    pub bits: &'a [u8],
+    pub l: usize,
 }
 
-// The ones of row x in the columns v.
-pub fn count(bits: &[u8], l: usize, x: usize, v: &[usize]) -> usize
-    requires l_in_bounds { x * l + l ≤ length bits.now }
-    requires under { Under l v.now }
-    ensures { result ≡ ones (bit l bits.now) v.now x }
-{
-    let mut n: usize = 0;
-    let mut k = 0;
-    while k < v.len() {
-        let q = v[k];
-        if has(bits, l, x, q) {
-            n += 1;
-        }
-        k += 1;
+impl<'a> Grid<'a> {
+    // Whether row x has a one in column q.
+    pub fn has(self, x: usize, q: usize) -> bool
+        requires { (x * self.l + self.l ≤ length self.bits.now) × (q < self.l) }
+        ensures { result ≡ bit self.entry.l self.entry.bits.now x q }
+    {
+        self.bits[x * self.l + q] == 1
     }
-    n
+
+    // The ones of row x in the columns v.
+    pub fn count(self, x: usize, v: &[usize]) -> usize
+        requires l_in_bounds { x * self.l + self.l ≤ length self.bits.now }
+        requires under { Under self.l v.now }
+        ensures { result ≡ ones (bit self.entry.l self.entry.bits.now) v.now x }
+    {
+        v.iter().filter(|&&q| self.has(x, q)).count()
+    }
 }
 
-// Zeros.
+// Zeros, told as figures, which those who count in them cite.
 pub fn clear(s: &mut [usize])
     ensures { Figures (λ _. 0) (length s.old) s.new }
 {
-    let mut k = 0;
-    while k < s.len() {
-        s[k] = 0;
-        k += 1;
-    }
+    s.fill(0);
 }

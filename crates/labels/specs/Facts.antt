@@ -1,73 +1,24 @@
--- The definitions by the code's tests.
---   joint-new, joint-second, joint-first   the joint label of two columns: the next label if neither has one; the second's, or the first's, if only
---                            that one has a label
---   joint_less, joint_more   where both have one: the second's if it is the smaller, else the first's
---   next-new                 the next label grows by one where neither column has a label
---   next-second, next-first  it stays where the second, or the first, has one
---   Part                     the loop over columns: those below c have their new labels, the others are as they were
---   part-start, part-next, part_end   that begins, gives a column its new label, is over: each label is the definition's
---   alike                    where the pair does not bring two labels together only its own columns change
---   renamed_a, renamed_b, renamed_none   the label of a column, by the code's tests
+-- Labels that are changed.
+--   Part        the labels of the columns below c are the new ones, the others are as they were
+--   part-next   the label of one more column becomes the new one
+--   alike       where the pair does not bring two labels together only its own columns change
 -- Assumes nothing.
-use Rattle.std.specs.Prelude.{◌≡◌, refl, ◌⊎◌, Bool, true, false, cond, not, ◌&&◌, ◌||◌, List, ℕ, zero, suc, ◌+◌, ◌<◌, ◌≤◌, length, set, eqb, ltb}
-use Rattle.std.proofs.Common.{sym, ap, subst, ◌∙◌, inl, inr, ⊎_elim, arith, length-set, get_or-set_same, get_or-set_other, eqb-true, eq-eqb, ne_eqb, lt-ltb, le-ltb, ltb-true, ltb-false}
-use Rattle.std.proofs.Math.ListN.{get_or-eq_default}
+use Rattle.std.specs.Prelude.{◌≡◌, refl, Bool, true, false, cond, not, ◌&&◌, ◌||◌, List, ℕ, zero, suc, ◌+◌, ◌<◌, ◌≤◌, length, set, eqb, ltb}
+use Rattle.std.proofs.Common.{sym, ap, subst, ◌∙◌, ⊎_elim, arith, length-set, get_or-set_same, get_or-set_other, eqb-true, eq-eqb, ne_eqb, le-ltb}
 use Rattle.std.proofs.lemmas.Bool.{eqb-false}
 use Rattle.rule.specs.Labels.{or_l, or_r}
-use Rattle.rule.specs.Rule.{joint, next_label, relabel, touched}
+use Rattle.rule.specs.Rule.{joint, relabel, touched}
 use Rattle.rule.specs.Sets.{bool_or}
 use Rattle.labels.specs.Labs.{labs, Alike}
-
-pub joint-new : (a b n : ℕ) → a ≡ 0 → b ≡ 0 → n ≡ joint a b n
-joint-new a b n e f = rw (e, f)
-
-pub joint-second : (a b n : ℕ) → a ≡ 0 → (b ≡ 0 → ⊥) → b ≡ joint a b n
-joint-second zero zero n e f = absurd (f refl)
-joint-second zero (suc b) n e f = refl
-joint-second (suc a) b n e f = absurd (omega arith)
-
-pub joint-first : (a b n : ℕ) → (a ≡ 0 → ⊥) → b ≡ 0 → a ≡ joint a b n
-joint-first zero b n e f = absurd (e refl)
-joint-first (suc a) zero n e f = refl
-joint-first (suc a) (suc b) n e f = absurd (omega arith)
-
-pub joint_less : (a b n : ℕ) → (b ≡ 0 → ⊥) → b < a → b ≡ joint a b n
-joint_less zero b n f h = absurd (omega arith)
-joint_less (suc a) zero n f h = absurd (f refl)
-joint_less (suc a) (suc b) n f h = let e : ltb b a ≡ true = lt-ltb b a (omega arith) in rw e
-
-pub joint_more : (a b n : ℕ) → (a ≡ 0 → ⊥) → (b ≡ 0 → ⊥) → a ≤ b → a ≡ joint a b n
-joint_more zero b n e f h = absurd (e refl)
-joint_more (suc a) zero n e f h = absurd (f refl)
-joint_more (suc a) (suc b) n e f h = let g : ltb b a ≡ false = le-ltb b a (omega arith) in rw g
-
-pub next-new : (a b n : ℕ) → a ≡ 0 → b ≡ 0 → n + 1 ≡ next_label a b n
-next-new a b n e f = rw (e, f) (omega arith)
-
-pub next-second : (a b n : ℕ) → (b ≡ 0 → ⊥) → n ≡ next_label a b n
-next-second zero zero n f = absurd (f refl)
-next-second zero (suc b) n f = refl
-next-second (suc a) b n f = refl
-
-pub next-first : (a b n : ℕ) → (a ≡ 0 → ⊥) → n ≡ next_label a b n
-next-first zero b n f = absurd (f refl)
-next-first (suc a) b n f = refl
 
 or_both : (a b : Bool) → a ≡ false → b ≡ false → (a || b) ≡ false
 or_both a b e f = rw (e, f)
 
-and_left : (a b : Bool) → a ≡ false → (a && b) ≡ false
-and_left a b e = rw e
-
--- the loop: labels below c are changed, the others are as they were
 pub record Part (l₀ : List ℕ) (n p q : ℕ) (l : List ℕ) (c : ℕ) : Type 0 where
   pub len : length l ≡ length l₀
   pub at : c ≤ length l₀
   pub old : (k : ℕ) → c ≤ k → labs l k ≡ labs l₀ k
   pub new : (k : ℕ) → k < c → labs l k ≡ relabel (labs l₀) n p q k
-
-pub part-start : (l₀ : List ℕ) (n p q : ℕ) → Part l₀ n p q l₀ 0
-part-start l₀ n p q = record { len = refl; at = omega arith; old = λ k _. refl; new = λ k h. absurd (omega arith) }
 
 below : (l₀ l : List ℕ) (n p q c : ℕ) → ((k : ℕ) → k < c → labs l k ≡ relabel (labs l₀) n p q k) → labs l c ≡ relabel (labs l₀) n p q c
     → (k : ℕ) → k < c + 1 → labs l k ≡ relabel (labs l₀) n p q k
@@ -106,34 +57,24 @@ part-next l₀ n p q l c j x h i hp hq e f =
           ∙ ap (λ (b : Bool). cond b (joint (labs l₀ p) (labs l₀ q) n) (labs l₀ c)) (sym (touched_labels l₀ p q c hp hq)));
     }
 
--- past the end there is no label, and none comes
-pub part_end : (l₀ : List ℕ) (n p q : ℕ) (l : List ℕ) (c : ℕ) → p < length l₀ → q < length l₀ → Part l₀ n p q l c → length l ≤ c
-    → (k : ℕ) → labs l k ≡ relabel (labs l₀) n p q k
-part_end l₀ n p q l c hp hq h e k = cases (bool_or (ltb k c))
-  where
-    cases : (ltb k c ≡ true) ⊎ (ltb k c ≡ false) → labs l k ≡ relabel (labs l₀) n p q k
-    cases (inl t) = h.new k (ltb-true k c t)
-    cases (inr t) =
-        let far : length l₀ ≤ k = omega (arith, ltb-false k c t, h.len) in
-        let z : labs l₀ k ≡ 0 = get_or-eq_default l₀ 0 far in
-        let u : touched (labs l₀) p q k ≡ false =
-        or_both (eqb k p || eqb k q) _ (or_both _ _ (ne_eqb k p (λ f. omega arith)) (ne_eqb k q (λ f. omega arith)))
-        (and_left (not (eqb (labs l₀ k) 0)) _ (ap not (eq-eqb (labs l₀ k) 0 z))) in
-        h.old k (omega (arith, h.at, ltb-false k c t)) ∙ sym (ap (λ (b : Bool). cond b (joint (labs l₀ p) (labs l₀ q) n) (labs l₀ k)) u)
+joint-first : (a b n : ℕ) → (a ≡ 0 → ⊥) → b ≡ 0 → a ≡ joint a b n
+joint-first zero b n e f = absurd (e refl)
+joint-first (suc a) zero n e f = refl
+joint-first (suc a) (suc b) n e f = absurd (omega arith)
 
-pub renamed_a : (v a b j : ℕ) → v ≡ a → j ≡ cond (eqb v a || eqb v b) j v
-renamed_a v a b j e = rw (eq-eqb v a e)
+joint-second : (a b n : ℕ) → a ≡ 0 → (b ≡ 0 → ⊥) → b ≡ joint a b n
+joint-second zero zero n e f = absurd (f refl)
+joint-second zero (suc b) n e f = refl
+joint-second (suc a) b n e f = absurd (omega arith)
 
-pub renamed_b : (v a b j : ℕ) → v ≡ b → j ≡ cond (eqb v a || eqb v b) j v
-renamed_b v a b j e = rw (or_r (eqb v a) _ (eq-eqb v b e))
-
-pub renamed_none : (v a b j : ℕ) → (v ≡ a → ⊥) → (v ≡ b → ⊥) → v ≡ cond (eqb v a || eqb v b) j v
-renamed_none v a b j e f = rw (ne_eqb v a e, ne_eqb v b f)
+joint_same : (a n : ℕ) → (a ≡ 0 → ⊥) → a ≡ joint a a n
+joint_same zero n e = absurd (e refl)
+joint_same (suc a) n e = let g : ltb a a ≡ false = le-ltb a a (omega arith) in rw g
 
 -- the joint label of a pair that is alike is the label that it has
 module _ (a b n : ℕ) (h : Alike a b) where
   joint-a : (a ≡ 0 → ⊥) → a ≡ joint a b n
-  joint-a z = ⊎_elim (λ e. absurd (z e)) (⊎_elim (λ e. joint-first a b n z e) (λ e. joint_more a b n z (λ f. z (e ∙ f)) (omega arith))) h
+  joint-a z = ⊎_elim (λ e. absurd (z e)) (⊎_elim (λ e. joint-first a b n z e) (λ e. joint_same a n z ∙ ap (λ (x : ℕ). joint a x n) e)) h
 
   joint-b : (b ≡ 0 → ⊥) → b ≡ joint a b n
   joint-b z = ⊎_elim (λ e. joint-second a b n e z) (⊎_elim (λ e. absurd (z e)) (λ e. sym e ∙ joint-a (λ f. z (sym e ∙ f)))) h

@@ -5,33 +5,28 @@
 --   marks_one           two slices of equal length that have the same labels are equal, and so are the next labels
 --   marked_one          two outcomes that meet `Marked` are equal
 --   pair_marked         labels that are changed column by column as a pair asks are those with the pair joined
---   Next                the next place whose column passes a test
+--   Hit, Next           a place is the next one whose column passes a test; what a search for it finds
+--   hit_at              the place that was found is such a place
 --   Seeking             a search for it: the columns that pass from place k on are those that pass from place i on
---   seek_start, seek_next, seek_hit, seek_end   it begins, passes a column, finds one, is over without one
---   first-at, second_at   a row with two ones in v: the places found for them are within v
---   first_next          the search for the second begins within v
---   both_there          the row's ones in v are the columns at these two places
---   spared_yes, spared_no   a row has no one in v where the search for one ends at the end of v, and has one where it ends before
+--   both_there          a row with two ones in v: they are the columns at the two places that are found
+--   spared_is           a row has no one in v exactly where no column of v has one
 --   Joining             a loop over rows, of which those that pass are joined
---   join_start, join_hit, join_skip, join_end   it begins, joins a row, passes one, is over
 --   is_noted             row y was brought down to two ones by column c, the columns cs leaving after it, by the figures in the end
 --   noted_by             the rows of ys of which this is so, for each column that leaves, in its order
 --   Right               the figures of the rows ys are their ones in C
---   noted_no, noted-not   a row is not noted if its figure is not two, or if it has no one in column c
---   noted_so            else it is noted exactly where it has no one in the columns after c
 --   noted-two           a row that is noted has two ones in C
 --   add_pairs_append    two lists of rows, joined one after the other
 --   Noting              a loop over the columns that leave, of which each has its noted rows joined
---   note-start, note-next, note_end   it begins, makes a turn, is over
+--   note-next, note_end   it makes a turn, is over
 --   under_rest   the part of a list from a place on, as a slice has it, keeps the bound of the list
 --   row_marked          a row whose ones are the pair is joined where the pair is
---   ready_next          one more than the next label fits 64 bits
 --   has_label           a column of v is below the number of labels
 --   as_long             a number that is within a length is within an equal one
 -- Assumes nothing.
-use Rattle.std.specs.Prelude.{◌≡◌, refl, ◌⊎◌, Bool, true, false, cond, not, ◌&&◌, ◌||◌, ℕ, zero, suc, ◌+◌, ◌-◌, ◌^◌, ◌≤◌, ◌<◌, length, get_or, take, drop, eqb, ltb}
+use Rattle.std.specs.Prelude.{◌≡◌, refl, Option, Some, None, ◌⊎◌, Bool, true, false, cond, not, ◌&&◌, ◌||◌, ℕ, zero, suc, ◌+◌, ◌-◌, ◌^◌, ◌≤◌, ◌<◌, length, get_or, take, drop, eqb, ltb}
+use Rattle.std.specs.List.{list_any}
 use Rattle.std.proofs.Math.Path.{sym, ap, fun_ext}
-use Rattle.std.proofs.Common.{ap₂, subst, ◌∙◌, inl, inr, ⊎_elim, arith, length-drop, get_or-drop, ext_get_or, eqb-true, eq-eqb, ne_eqb, ltb-true, ltb-false}
+use Rattle.std.proofs.Common.{ap₂, subst, ◌∙◌, inl, inr, ⊎_elim, arith, length-drop, get_or-drop, ext_get_or, eqb-true, eq-eqb, ne_eqb}
 use mathlib.Core.List.{List, [], ◌∷◌, ◌++◌}
 use Rattle.rule.proofs.Labels.{joint_pos}
 use Rattle.loops.specs.Part.{drop-next, rest_part}
@@ -149,66 +144,40 @@ module _ (l₀ l : List ℕ) (n₀ n p q : ℕ) (r : Ready l₀ n₀) (hp : p < 
     is = ap₂ (λ (f : ℕ → ℕ) (m : ℕ). record { lab = f; next = m }) (fun_ext each) nx;
   }
 
--- the next place of v, from k on, whose column passes
-pub record Next (p : ℕ → Bool) (v : List ℕ) (k r : ℕ) : Type 0 where
-  pub upto : r ≤ length v
-  pub hit : r < length v → filter p (drop k v) ≡ get_or v r 0 ∷ filter p (drop (r + 1) v)
-  pub none : length v ≤ r → filter p (drop k v) ≡ []
+-- place r of v is the next one, from k on, whose column passes
+pub record Hit (p : ℕ → Bool) (v : List ℕ) (k r : ℕ) : Type 0 where
+  pub within : r < length v
+  pub is : filter p (drop k v) ≡ get_or v r 0 ∷ filter p (drop (r + 1) v)
+
+abbrev pub Next : (ℕ → Bool) → List ℕ → ℕ → Option ℕ → Type 0
+Next p v k (Some r) = Hit p v k r
+Next p v k None = filter p (drop k v) ≡ []
+
+pub hit_at : {p : ℕ → Bool} {v : List ℕ} (k : ℕ) {o : Option ℕ} {r : ℕ} → o ≡ Some r → Next p v k o → Hit p v k r
+hit_at {p} {v} k e h = subst (Next p v k) e h
 
 pub record Seeking (p : ℕ → Bool) (v : List ℕ) (k i : ℕ) : Type 0 where
   pub upto : i ≤ length v
   pub same : filter p (drop k v) ≡ filter p (drop i v)
-
-pub seek_start : {p : ℕ → Bool} {v : List ℕ} {k : ℕ} → k ≤ length v → Seeking p v k k
-seek_start h = record { upto = h; same = refl }
-
-module _ {p : ℕ → Bool} {v : List ℕ} {k i : ℕ} (h : Seeking p v k i) where
-  pub seek_next : i < length v → p (get_or v i 0) ≡ false → Seeking p v k (i + 1)
-  seek_next l e = record { upto = omega arith; same = h.same ∙ ap (filter p) (drop-next v i l) ∙ ap (λ (t : Bool). keep t (get_or v i 0) (filter p (drop (i + 1) v))) e }
-
-  pub seek_hit : i < length v → p (get_or v i 0) ≡ true → Next p v k i
-  seek_hit l e = record {
-    upto = h.upto;
-    hit = λ _. h.same ∙ ap (filter p) (drop-next v i l) ∙ ap (λ (t : Bool). keep t (get_or v i 0) (filter p (drop (i + 1) v))) e;
-    none = λ g. absurd (omega arith);
-  }
-
-  pub seek_end : length v ≤ i → Next p v k i
-  seek_end l = record { upto = h.upto; hit = λ g. absurd (omega arith); none = λ _. h.same ∙ ap (filter p) (gone v i l) }
 
 -- a row with two ones in v: where they are
 empty : (l : List ℕ) → length l ≡ 0 → l ≡ []
 empty [] e = refl
 empty (a ∷ l) e = absurd (omega arith)
 
-module _ (row : ℕ → ℕ → Bool) (y : ℕ) (v : List ℕ) (two : count row v y ≡ 2) {a : ℕ} (fa : Next (row y) v 0 a) where
-  first_there : length v ≤ a → ⊥
-  first_there h = let e : count row v y ≡ 0 = ap length (fa.none h) in omega arith
+pub both_there : (row : ℕ → ℕ → Bool) (y : ℕ) (v : List ℕ) → count row v y ≡ 2 → {a b : ℕ} → Hit (row y) v 0 a → Hit (row y) v (a + 1) b
+    → ones row v y ≡ get_or v a 0 ∷ get_or v b 0 ∷ []
+both_there row y v two {a} {b} fa fb =
+    let e : ones row v y ≡ get_or v a 0 ∷ get_or v b 0 ∷ filter (row y) (drop (b + 1) v) = fa.is ∙ ap (λ (z : List ℕ). get_or v a 0 ∷ z) fb.is in
+    e ∙ ap (λ (z : List ℕ). get_or v a 0 ∷ get_or v b 0 ∷ z) (empty (filter (row y) (drop (b + 1) v)) (let f : count row v y ≡ suc (suc (length (filter (row y) (drop (b + 1) v)))) = ap length e in omega arith))
 
-  pub first-at : a < length v
-  first-at = ⊎_elim (λ t. ltb-true a (length v) t) (λ t. absurd (first_there (ltb-false a (length v) t))) (bool_or (ltb a (length v)))
-
-  pub first_next : a + 1 ≤ length v
-  first_next = omega (arith, first-at)
-
-  module _ (ha : a < length v) {b : ℕ} (fb : Next (row y) v (a + 1) b) where
-    second_there : length v ≤ b → ⊥
-    second_there h = let e : count row v y ≡ 1 = ap length (fa.hit ha ∙ ap (λ (z : List ℕ). get_or v a 0 ∷ z) (fb.none h)) in omega arith
-
-    pub second_at : b < length v
-    second_at = ⊎_elim (λ t. ltb-true b (length v) t) (λ t. absurd (second_there (ltb-false b (length v) t))) (bool_or (ltb b (length v)))
-
-    pub both_there : b < length v → ones row v y ≡ get_or v a 0 ∷ get_or v b 0 ∷ []
-    both_there hb =
-        let e : ones row v y ≡ get_or v a 0 ∷ get_or v b 0 ∷ filter (row y) (drop (b + 1) v) = fa.hit ha ∙ ap (λ (z : List ℕ). get_or v a 0 ∷ z) (fb.hit hb) in
-        e ∙ ap (λ (z : List ℕ). get_or v a 0 ∷ get_or v b 0 ∷ z) (empty (filter (row y) (drop (b + 1) v)) (let f : count row v y ≡ suc (suc (length (filter (row y) (drop (b + 1) v)))) = ap length e in omega arith))
-
-pub spared_yes : (row : ℕ → ℕ → Bool) (y : ℕ) (v : List ℕ) {a : ℕ} → Next (row y) v 0 a → a ≡ length v → true ≡ eqb (count row v y) 0
-spared_yes row y v f e = sym (eq-eqb (count row v y) 0 (ap length (f.none (omega arith))))
-
-pub spared_no : (row : ℕ → ℕ → Bool) (y : ℕ) (v : List ℕ) {a : ℕ} → Next (row y) v 0 a → (a ≡ length v → ⊥) → false ≡ eqb (count row v y) 0
-spared_no row y v {a} f n = sym (ne_eqb (count row v y) 0 (λ e. let l : a < length v = omega (arith, f.upto) in
-    let w : count row v y ≡ suc (length (filter (row y) (drop (a + 1) v))) = ap length (f.hit l) in omega arith))
+pub spared_is : (row : ℕ → ℕ → Bool) (y : ℕ) (v : List ℕ) → not (list_any (row y) v) ≡ eqb (count row v y) 0
+spared_is row y [] = refl
+spared_is row y (q ∷ v) = at (row y q) (spared_is row y v)
+  where
+    at : (b : Bool) → not (list_any (row y) v) ≡ eqb (count row v y) 0 → not (b || list_any (row y) v) ≡ eqb (length (keep b q (filter (row y) v))) 0
+    at true h = sym (ne_eqb (suc (count row v y)) 0 (λ e. omega arith))
+    at false h = h
 
 -- a loop over the rows ys, of which those that pass are joined: k of them are done
 pub record Joining (row : ℕ → ℕ → Bool) (C : List ℕ) (p : ℕ → Bool) (ys l₀ : List ℕ) (n₀ k : ℕ) (l : List ℕ) (n : ℕ) : Type 0 where
@@ -217,39 +186,6 @@ pub record Joining (row : ℕ → ℕ → Bool) (C : List ℕ) (p : ℕ → Bool
   pub few : n + zeros l ≤ n₀ + zeros l₀
   pub ready : Ready l n
   pub left : add_pairs row C (marks_of l n) (filter p (drop k ys)) ≡ add_pairs row C (marks_of l₀ n₀) (filter p ys)
-
-pub join_start : {row : ℕ → ℕ → Bool} {C : List ℕ} {p : ℕ → Bool} {ys l : List ℕ} {n : ℕ} → Ready l n → Joining row C p ys l n 0 l n
-join_start h = record { within = omega arith; kept = refl; few = omega arith; ready = h; left = refl }
-
-module _ {row : ℕ → ℕ → Bool} {C : List ℕ} {p : ℕ → Bool} {ys l₀ l : List ℕ} {n₀ k n : ℕ} (h : Joining row C p ys l₀ n₀ k l n) where
-  pub join_hit : {l' : List ℕ} {n' : ℕ} → k < length ys → p (get_or ys k 0) ≡ true → Marked (add_pair (marks_of l n) (ones row C (get_or ys k 0))) l n l' n' → Joining row C p ys l₀ n₀ (k + 1) l' n'
-  join_hit {l'} {n'} i e d = record {
-    within = omega arith;
-    kept = d.kept ∙ h.kept;
-    few = omega (arith, d.few, h.few);
-    ready = d.ready;
-    left = ap (λ (m : Marks). add_pairs row C m (filter p (drop (k + 1) ys))) d.is
-        ∙ ap (λ (t : Bool). add_pairs row C (marks_of l n) (keep t (get_or ys k 0) (filter p (drop (k + 1) ys)))) (sym e)
-        ∙ ap (λ (z : List ℕ). add_pairs row C (marks_of l n) (filter p z)) (sym (drop-next ys k i)) ∙ h.left;
-  }
-
-  pub join_skip : k < length ys → p (get_or ys k 0) ≡ false → Joining row C p ys l₀ n₀ (k + 1) l n
-  join_skip i e = record {
-    within = omega arith;
-    kept = h.kept;
-    few = h.few;
-    ready = h.ready;
-    left = ap (λ (t : Bool). add_pairs row C (marks_of l n) (keep t (get_or ys k 0) (filter p (drop (k + 1) ys)))) (sym e)
-        ∙ ap (λ (z : List ℕ). add_pairs row C (marks_of l n) (filter p z)) (sym (drop-next ys k i)) ∙ h.left;
-  }
-
-  pub join_end : length ys ≤ k → Marked (add_pairs row C (marks_of l₀ n₀) (filter p ys)) l₀ n₀ l n
-  join_end i = record {
-    kept = h.kept;
-    few = h.few;
-    ready = h.ready;
-    is = sym (ap (λ (z : List ℕ). add_pairs row C (marks_of l n) (filter p z)) (gone ys k i)) ∙ h.left;
-  }
 
 -- the rows of ys that column c brought down to two ones, the columns cs leaving after it, by the figures that they have in the end
 unfoldable pub is_noted : (ℕ → ℕ → Bool) → List ℕ → ℕ → List ℕ → ℕ → Bool
@@ -262,18 +198,6 @@ noted_by row fig (c ∷ cs) ys = filter (is_noted row fig c cs) ys ++ noted_by r
 -- the figures of the rows ys are their ones in C
 pub record Right (row : ℕ → ℕ → Bool) (C ys fig : List ℕ) : Type 0 where
   pub at : (k : ℕ) → k < length ys → get_or fig (get_or ys k 0) 0 ≡ count row C (get_or ys k 0)
-
-pub noted_no : (row : ℕ → ℕ → Bool) (fig : List ℕ) (c : ℕ) (cs : List ℕ) (y n : ℕ) → n ≡ get_or fig y 0 → (n ≡ 2 → ⊥) → false ≡ is_noted row fig c cs y
-unfolding is_noted
-noted_no row fig c cs y n e d = sym (ap (λ (t : Bool). t && (row y c && eqb (count row cs y) 0)) (ne_eqb (get_or fig y 0) 2 (λ g. d (e ∙ g))))
-
-pub noted-not : (row : ℕ → ℕ → Bool) (fig : List ℕ) (c : ℕ) (cs : List ℕ) (y n : ℕ) → n ≡ get_or fig y 0 → n ≡ 2 → row y c ≡ false → false ≡ is_noted row fig c cs y
-unfolding is_noted
-noted-not row fig c cs y n e d g = sym (ap (λ (t : Bool). t && (row y c && eqb (count row cs y) 0)) (eq-eqb (get_or fig y 0) 2 (sym e ∙ d)) ∙ ap (λ (t : Bool). t && eqb (count row cs y) 0) g)
-
-pub noted_so : (row : ℕ → ℕ → Bool) (fig : List ℕ) (c : ℕ) (cs : List ℕ) (y n : ℕ) (r : Bool) → n ≡ get_or fig y 0 → n ≡ 2 → row y c ≡ true → r ≡ eqb (count row cs y) 0 → r ≡ is_noted row fig c cs y
-unfolding is_noted
-noted_so row fig c cs y n r e d g s = s ∙ sym (ap (λ (t : Bool). t && (row y c && eqb (count row cs y) 0)) (eq-eqb (get_or fig y 0) 2 (sym e ∙ d)) ∙ ap (λ (t : Bool). t && eqb (count row cs y) 0) g)
 
 -- a noted row has two ones
 noted-first : (a b : Bool) → (a && b) ≡ true → a ≡ true
@@ -296,9 +220,6 @@ pub record Noting (row : ℕ → ℕ → Bool) (C fig qs ys l₀ : List ℕ) (n�
   pub few : n + zeros l ≤ n₀ + zeros l₀
   pub ready : Ready l n
   pub left : add_pairs row C (marks_of l n) (noted_by row fig (drop k qs) ys) ≡ add_pairs row C (marks_of l₀ n₀) (noted_by row fig qs ys)
-
-pub note-start : {row : ℕ → ℕ → Bool} {C fig qs ys l : List ℕ} {n : ℕ} → Ready l n → Noting row C fig qs ys l n 0 l n
-note-start h = record { within = omega arith; kept = refl; few = omega arith; ready = h; left = refl }
 
 module _ {row : ℕ → ℕ → Bool} {C fig qs ys l₀ l : List ℕ} {n₀ k n : ℕ} (h : Noting row C fig qs ys l₀ n₀ k l n) where
   pub note-next : {l' rest : List ℕ} {n' : ℕ} → k < length qs → rest ≡ drop (k + 1) qs
@@ -329,9 +250,6 @@ under_rest {m} qs j u h = rw rest_part (record { at = λ k i. subst (λ (z : ℕ
 pub row_marked : (row : ℕ → ℕ → Bool) (v : List ℕ) {l₀ l : List ℕ} {n₀ n p q : ℕ} (y : ℕ) → ones row v y ≡ p ∷ q ∷ [] → Marked (add_pair (marks_of l₀ n₀) (p ∷ q ∷ [])) l₀ n₀ l n
     → Marked (add_pair (marks_of l₀ n₀) (ones row v y)) l₀ n₀ l n
 row_marked row v {l₀} {l} {n₀} {n} y e m = subst (λ (z : List ℕ). Marked (add_pair (marks_of l₀ n₀) z) l₀ n₀ l n) (sym e) m
-
-pub ready_next : {l : List ℕ} {n : ℕ} → Ready l n → n + 1 < 2 ^ 64
-ready_next r = omega (arith, r.room)
 
 pub has_label : {l m a : ℕ} {v : List ℕ} → Under l v → a < length v → l ≤ m → get_or v a 0 < m
 has_label {a = a} u h e = omega (arith, u.at a h)

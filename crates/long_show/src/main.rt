@@ -5,36 +5,11 @@ ghost use Rattle.std.specs.Prelude.{◌≤◌, ◌<◌, length};
 
 use std::io;
 
-fn put(rt: &impl Print, text: &[u8]) -> io::Result<()> {
-    rt.write_all(text)
-}
-
-// A number and what it counts.
-fn put_count(rt: &impl Print, n: usize, text: &[u8]) -> io::Result<()> {
-    rt.print(n)?;
-    put(rt, text)
-}
-
-// Byte i of the form of 16,380 operations, all alike, with no order: 65,534 bytes.
-fn long_byte(i: usize) -> u8 {
-    let head = [0u8, 0, 255, 250, 1, 0, 2, 0, 1, 0, 0, 63, 252];
-    if i < 13 {
-        return head[i];
-    }
-    if 65533 <= i {
-        return 0;
-    }
-    if i % 2 == 1 {
-        return 1;
-    }
-    0
-}
-
-fn fill_long(form: &mut [u8]) {
-    let mut k = 0;
-    while k < form.len() {
-        form[k] = long_byte(k);
-        k += 1;
+// The form of 16,380 operations, all alike, with no order: 65,534 bytes.
+fn fill_long(form: &mut [u8; 65534]) {
+    form[..13].copy_from_slice(&[0, 0, 255, 250, 1, 0, 2, 0, 1, 0, 0, 63, 252]);
+    for op in form[13..65533].chunks_exact_mut(4) {
+        op.copy_from_slice(&[1, 0, 1, 0]);
     }
 }
 
@@ -43,33 +18,21 @@ fn line_end(text: &[u8], from: usize) -> usize
     requires { from < length text.now }
     ensures { (from < result) × (result ≤ length text.now) }
 {
-    let mut k = from;
-    while k < text.len() {
-        if text[k] == b'\n' {
-            return k + 1;
-        }
-        k += 1;
+    match text[from..].iter().position(|c| *c == b'\n') {
+        Some(k) => from + k + 1,
+        None => text.len(),
     }
-    k
 }
 
-fn same(a: &[u8], b: &[u8]) -> bool {
-    if a.len() != b.len() {
-        return false;
-    }
-    let mut k = 0;
-    while k < a.len() {
-        if a[k] != b[k] {
-            return false;
-        }
-        k += 1;
-    }
-    true
+// A line, after how often it stands in a row.
+fn put_run(rt: &impl Print, times: usize, line: &[u8]) -> io::Result<()> {
+    print!(rt; "{times} ")?;
+    rt.write_all(line)
 }
 
 // Each line of a text, after how often it stands in a row.
 fn put_runs(rt: &impl Print, text: &[u8]) -> io::Result<()> {
-    if text.len() == 0 {
+    if text.is_empty() {
         return Ok(());
     }
     let mut from = 0;
@@ -78,19 +41,16 @@ fn put_runs(rt: &impl Print, text: &[u8]) -> io::Result<()> {
     while at < text.len() {
         let first = line_end(text, from);
         let end = line_end(text, at);
-        if same(&text[from..first], &text[at..end]) {
+        if text[from..first] == text[at..end] {
             times += 1;
         } else {
-            put_count(rt, times, b" ")?;
-            put(rt, &text[from..first])?;
+            put_run(rt, times, &text[from..first])?;
             from = at;
             times = 1;
         }
         at = end;
     }
-    let first = line_end(text, from);
-    put_count(rt, times, b" ")?;
-    put(rt, &text[from..first])
+    put_run(rt, times, &text[from..line_end(text, from)])
 }
 
 fn show_once(rt: &impl Print, form: &[u8]) -> io::Result<()> {
@@ -98,16 +58,8 @@ fn show_once(rt: &impl Print, form: &[u8]) -> io::Result<()> {
     let mut order = [0usize; 256];
     let mut out = [0u8; 270000];
     let k = shown::show(form, &mut list, &mut order, &mut out);
-    put_count(rt, k, b" bytes\n")?;
-    put_front(rt, &out, k)
-}
-
-// The first n bytes of a text.
-fn put_front(rt: &impl Print, text: &[u8], n: usize) -> io::Result<()> {
-    if n <= text.len() {
-        put_runs(rt, &text[0..n])?;
-    }
-    Ok(())
+    println!(rt; "{k} bytes")?;
+    put_runs(rt, out.get(..k).unwrap_or(&[]))
 }
 
 fn show_zeros(rt: &impl Print) -> io::Result<()> {

@@ -5,9 +5,6 @@
 use Rattle.std.specs.Prelude.{◌≡◌, ◌≢◌, ℕ}
 use Rattle.std.proofs.Common.{sym, ap, ◌∙◌, pos_of_ne-zero}
 use Rattle.octet.specs.Octet.{mul, inverse}
-use Rattle.octet.specs.Sums as S
-use Rattle.octet.specs.Products as P
-use Rattle.octet.specs.Powers as W
 use Rattle.octet.proofs.Powers as Wp
 use Rattle.octet.specs.Field.{Octet, mul_assoc, mul_comm, one-mul}
 

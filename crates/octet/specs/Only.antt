@@ -6,9 +6,8 @@ use Rattle.std.specs.Prelude.{◌≡◌, ℕ}
 use Rattle.std.proofs.Common.{sym, ◌∙◌}
 use Rattle.std.proofs.Math.Path.{ap}
 use Rattle.octet.specs.Octet.{add, mul}
-use Rattle.octet.specs.Answers.{Divided}
+use Rattle.octet.specs.Answers.{Quotient, Divided}
 use Rattle.octet.specs.declared.Octet.{Octet}
-use Rattle.octet.specs.declared.Quotient.{Quotient}
 
 pub only : {A : Type 0} {r s x : A} → r ≡ x → s ≡ x → r ≡ s
 only p q = p ∙ sym q

@@ -6,7 +6,7 @@
 --   mul_swap           a product of four
 --   quotient_lt, quotient-zero   the quotient is an octet; that of zero is zero
 -- Assumes nothing.
-use Rattle.std.specs.Prelude.{◌≡◌, refl, Bool, true, false, List, [], ◌∷◌, ℕ, zero, suc, ◌+◌, ◌-◌, ◌<◌}
+use Rattle.std.specs.Prelude.{◌≡◌, refl, Bool, true, false, List, [], ◌∷◌, ℕ, zero, suc, ◌+◌, ◌<◌}
 use Rattle.std.proofs.Common.{sym, ap, ◌∙◌, zero-add, suc-add, lit<}
 use Rattle.octet.specs.Octet.{mul, power, squares, inverse, quotient}
 use Rattle.octet.specs.Products.{mul_assoc, mul_comm, mul-one_l, mul-zero_l, mul_lt}

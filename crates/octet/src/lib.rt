@@ -68,17 +68,14 @@ fn log(a: u8) -> u8
 }
 
 // An octet: its binary digits are the coefficients of a polynomial over GF(2).
-#[derive(Clone, Copy)]
+#[derive(Debug, Clone, Copy, PartialEq, Eq)]
 pub struct Octet {
     pub value: u8,
 }
 
-// A quotient, or that the divisor is zero.
-#[derive(Clone, Copy)]
-pub enum Quotient {
-    Value(Octet),
-    ZeroDivisor,
-}
+// The refusal of a division: the divisor is zero.
+#[derive(Debug, Clone, Copy, PartialEq, Eq)]
+pub struct ZeroDivisor;
 
 impl Octet {
     pub const ZERO: Octet = Octet { value: 0 };
@@ -86,6 +83,7 @@ impl Octet {
     pub const ONE: Octet = Octet { value: 1 };
 
     // The sum: exclusive or.
+    #[tactic(auto, unfolding(crate::specs::Octet::add))]
     pub fn add(self, other: Octet) -> Octet
         ensures { result.value ≡ add self.value other.value }
     {
@@ -100,31 +98,28 @@ impl Octet {
     {
         let a = self.value;
         let b = other.value;
-        if a == 0 {
-            return Octet::ZERO;
-        }
-        if b == 0 {
+        if a == 0 || b == 0 {
             return Octet::ZERO;
         }
         Octet {
-            value: exp(log(a) as usize + log(b) as usize),
+            value: exp(usize::from(log(a)) + usize::from(log(b))),
         }
     }
 
     // The quotient, or that the divisor is zero.
-    pub fn div(self, other: Octet) -> Quotient
+    pub fn div(self, other: Octet) -> Result<Octet, ZeroDivisor>
         ensures { Divided self.value other.value result }
     {
         let a = self.value;
         let b = other.value;
         if b == 0 {
-            return Quotient::ZeroDivisor;
+            return Err(ZeroDivisor);
         }
         if a == 0 {
-            return Quotient::Value(Octet::ZERO);
+            return Ok(Octet::ZERO);
         }
-        Quotient::Value(Octet {
-            value: exp(255 + log(a) as usize - log(b) as usize),
+        Ok(Octet {
+            value: exp(255 + usize::from(log(a)) - usize::from(log(b))),
         })
     }
 }

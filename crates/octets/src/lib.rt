@@ -10,7 +10,11 @@ use octet::Octet;
 
 pub mod multiples;
 
+// The octets of a block: the width of a vector.
+const LANES: usize = 16;
+
 // Twice x.
+#[tactic(auto, using(crate::proofs::Doubling::doubled), unfolding(octet::specs::Octet::add))]
 fn twice(x: u8) -> u8
     ensures { result ≡ mul 2 x }
 {
@@ -18,6 +22,7 @@ fn twice(x: u8) -> u8
 }
 
 // m where the power of 2 p is among the binary digits of x, else zero.
+#[tactic(auto, unfolding(octet::specs::Octet::times))]
 fn digit(x: u8, p: u8, m: u8) -> u8
     requires { 0 < p }
     ensures { result ≡ times (x / p % 2) m }
@@ -51,10 +56,9 @@ pub fn add(dest: &mut [u8], src: &[u8])
     requires { length dest.old ≡ length src.now }
     ensures { Added dest.old src.now dest.new }
 {
-    let mut i = 0;
-    while i < dest.len() {
-        dest[i] = dest[i] ^ src[i];
-        i += 1;
+    // By place, here and below: of a `zip` with `iter_mut` a proof knows only the length.
+    for (i, d) in dest.iter_mut().enumerate() {
+        *d ^= src[i];
     }
 }
 
@@ -63,10 +67,8 @@ pub fn scale(dest: &mut [u8], scalar: Octet)
     ensures { Scaled dest.old scalar.value dest.new }
 {
     let k = scalar.value;
-    let mut i = 0;
-    while i < dest.len() {
-        dest[i] = product(dest[i], k);
-        i += 1;
+    for d in dest.iter_mut() {
+        *d = product(*d, k);
     }
 }
 
@@ -75,27 +77,22 @@ fn fma_short(dest: &mut [u8], src: &[u8], k: u8)
     requires { length dest.old ≡ length src.now }
     ensures { Fused dest.old src.now k dest.new }
 {
-    let mut i = 0;
-    while i < dest.len() {
-        dest[i] = dest[i] ^ product(src[i], k);
-        i += 1;
+    for (i, d) in dest.iter_mut().enumerate() {
+        *d ^= product(src[i], k);
     }
 }
 
 // What the last sixteen octets of dest are to be once k src is added.
-fn fma_last(dest: &[u8], src: &[u8], k: u8) -> [u8; 16]
+fn fma_last(dest: &[u8], src: &[u8], k: u8) -> [u8; LANES]
     requires { (16 ≤ length dest.now) × (length dest.now ≡ length src.now) }
     ensures { Last (fma_at dest.now src.now k) dest.now result }
 {
-    let at = dest.len() - 16;
-    let mut p = [0u8; 16];
-    let mut j = 0;
-    while j < 16 {
-        let i = at + j;
-        p[j] = dest[i] ^ product(src[i], k);
-        j += 1;
+    let at = dest.len() - LANES;
+    let mut last = [0u8; LANES];
+    for (j, x) in last.iter_mut().enumerate() {
+        *x = dest[at + j] ^ product(src[at + j], k);
     }
-    p
+    last
 }
 
 // Adds k src to dest in the sixteen places from at on.
@@ -103,28 +100,21 @@ fn fma_block(dest: &mut [u8], src: &[u8], at: usize, k: u8)
     requires { (at + 16 ≤ length dest.old) × (length dest.old ≡ length src.now) }
     ensures { Span (fma_at dest.old src.now k) dest.old at (at + 16) dest.new }
 {
-    let mut j = 0;
-    while j < 16 {
-        let i = at + j;
-        dest[i] = dest[i] ^ product(src[i], k);
-        j += 1;
+    for i in at..at + LANES {
+        dest[i] ^= product(src[i], k);
     }
 }
 
 // Puts p in the last sixteen places of dest.
-fn store_last(dest: &mut [u8], p: &[u8; 16])
+fn store_last(dest: &mut [u8], p: &[u8; LANES])
     requires { 16 ≤ length dest.old }
     ensures { Span (from_end dest.old p.now) dest.old (length dest.old - 16) (length dest.old) dest.new }
 {
-    let at = dest.len() - 16;
-    let mut j = 0;
-    while j < 16 {
-        dest[at + j] = p[j];
-        j += 1;
-    }
+    let at = dest.len() - LANES;
+    dest[at..].copy_from_slice(p);
 }
 
-// Adds k src to dest in blocks of sixteen octets, the width of a vector. The last block may overlap the one before it, so it is worked out
+// Adds k src to dest in blocks. The last block may overlap the one before it, so it is worked out
 // before any octet changes.
 fn fma_long(dest: &mut [u8], src: &[u8], k: u8)
     requires { (16 ≤ length dest.old) × (length dest.old ≡ length src.now) }
@@ -132,9 +122,9 @@ fn fma_long(dest: &mut [u8], src: &[u8], k: u8)
 {
     let last = fma_last(dest, src, k);
     let mut i = 0;
-    while i + 16 < dest.len() {
+    while i + LANES < dest.len() {
         fma_block(dest, src, i, k);
-        i += 16;
+        i += LANES;
     }
     store_last(dest, &last);
 }
@@ -145,7 +135,7 @@ pub fn fma(dest: &mut [u8], src: &[u8], scalar: Octet)
     ensures { Fused dest.old src.now scalar.value dest.new }
 {
     let k = scalar.value;
-    if dest.len() <= 16 {
+    if dest.len() <= LANES {
         fma_short(dest, src, k);
     } else {
         fma_long(dest, src, k);

@@ -7,10 +7,12 @@ ghost use Rattle.octets.specs.Multiples.{Blank, Multiples, entry, filled_at, dig
 
 use octet::Octet;
 
-// The bytes of a block, and of all sixteen.
+// The bytes of a block, of a place's four, and of all sixteen.
 pub const BLOCK: usize = 1280;
 
-pub const ROOM: usize = 20480;
+const PLACE: usize = 4 * BLOCK;
+
+pub const ROOM: usize = 4 * PLACE;
 
 // Puts x, 2 x and 3 x in their blocks, the block of the digit 0 being from at on; the answer is 4 x.
 fn put_digits(room: &mut [u8; ROOM], at: usize, x: u8) -> u8
@@ -18,9 +20,9 @@ fn put_digits(room: &mut [u8; ROOM], at: usize, x: u8) -> u8
     ensures { (room.new ≡ filled_at at x room.old) × (result ≡ mul 4 x) }
 {
     let y = crate::twice(x);
-    room[at + 1280] = x;
-    room[at + 2560] = y;
-    room[at + 3840] = x ^ y;
+    room[at + BLOCK] = x;
+    room[at + 2 * BLOCK] = y;
+    room[at + 3 * BLOCK] = x ^ y;
     crate::twice(y)
 }
 
@@ -29,20 +31,12 @@ pub fn fill(room: &mut [u8; ROOM], src: &[u8])
     requires { (length src.now ≤ 1280) × Blank room.old }
     ensures { Multiples (length src.now) (entry src.now 0) room.new × Blank room.new }
 {
-    let mut i = 0;
-    while i < src.len() {
-        let x = put_digits(room, i, src[i]);
-        let y = put_digits(room, 5120 + i, x);
-        let z = put_digits(room, 10240 + i, y);
-        put_digits(room, 15360 + i, z);
-        i += 1;
+    for (i, s) in src.iter().enumerate() {
+        let x = put_digits(room, i, *s);
+        let y = put_digits(room, PLACE + i, x);
+        let z = put_digits(room, 2 * PLACE + i, y);
+        put_digits(room, 3 * PLACE + i, z);
     }
-}
-
-fn wide(x: u8) -> usize
-    ensures { result ≡ x }
-{
-    x as usize
 }
 
 // Adds to dest the four blocks of the scalar's digits: scalar times the row whose multiples the room holds.
@@ -50,14 +44,12 @@ pub fn gather(dest: &mut [u8], room: &[u8; ROOM], scalar: Octet)
     requires { length dest.old ≤ 1280 }
     ensures { Span (digits_at dest.old room.now scalar.value) dest.old 0 (length dest.old) dest.new }
 {
-    let k = wide(scalar.value);
-    let a = k % 4 * 1280;
-    let b = 5120 + k / 4 % 4 * 1280;
-    let c = 10240 + k / 16 % 4 * 1280;
-    let d = 15360 + k / 64 % 4 * 1280;
-    let mut i = 0;
-    while i < dest.len() {
-        dest[i] = dest[i] ^ room[a + i] ^ room[b + i] ^ room[c + i] ^ room[d + i];
-        i += 1;
+    let k = usize::from(scalar.value);
+    let a = k % 4 * BLOCK;
+    let b = PLACE + k / 4 % 4 * BLOCK;
+    let c = 2 * PLACE + k / 16 % 4 * BLOCK;
+    let d = 3 * PLACE + k / 64 % 4 * BLOCK;
+    for (i, x) in dest.iter_mut().enumerate() {
+        *x = *x ^ room[a + i] ^ room[b + i] ^ room[c + i] ^ room[d + i];
     }
 }

@@ -1,6 +1,5 @@
 -- The labels of columns before the first step: the pairs of V are joined, from the top; then a component's label is one more than its least column.
 --   is_two               a row that has two ones, by the figures
---   two_yes, two_no     the test, where the figure is two and where it is not
 --   each_in, in-place   what holds at each place of a list holds of its members; an entry is a member
 --   twos_are            such rows are those of the rule
 --   blank, blank_ready  a slice without labels: no column has one, and the next label is 1
@@ -17,16 +16,16 @@
 --   seen                what the room holds of a label at column c
 --   Seen                what a turn does to the room: the entry of label a becomes what is seen of it at column c
 --   seen-new, seen_old  such a turn where the label was not seen before, and where it was
+--   seen_first          the first of them, with the entry as it is read back
 --   Given               what the labels are made from: rows and columns within the matrix, figures that are right, room
 --   under_range         the columns from 0 on, at most l of them, are below l
 --   given_columns, given_long   the columns of V are below l; there is a label for each of l columns
---   two-ones            a row whose figure is two has two ones
 --   given_upto, given_low, given_outside   with the pairs joined: each column of V has its place in the labels, each label its place in the room, and
 --                       columns outside V have no label
 --   FirstMarked         the labels before the first step, each below the next label
 --   given_marked        with the pairs joined and each label a number, the labels are so
 --   Numbering           the columns below c have their numbers
---   number_in, number_at   the label of column c is within the room, and the column within the labels
+--   number_at           column c is within the labels
 --   number-start, number-none, number-next, number_end   that begins, passes a column without label, makes a turn, is over
 --   Numbered            each label is one more than the least column that has it
 -- Assumes nothing.
@@ -35,7 +34,6 @@ use Rattle.std.proofs.Math.Path.{refl, sym, ap, fun_ext}
 use Rattle.std.proofs.Common.{ap₂, subst, ◌∙◌, inl, inr, ⊎_elim, add-one, length-set, get_or-set_same, get_or-set_other, below_more}
 use mathlib.Core.List.{List, [], ◌∷◌, ◌++◌}
 use Rattle.std.proofs.Math.Bool.{true, false, cond}
-use Rattle.std.proofs.Math.Option.{none}
 use Prim.Native.Nat.{ℕ, zero, suc, ◌+◌, ◌-◌, ◌^◌, ◌≤◌, ◌<◌}
 use native.Mathlib.Omega.{arith}
 use Rattle.std.proofs.Math.ListN.{get_or-eq_default}
@@ -57,14 +55,6 @@ use Rattle.phases.specs.Fit.{less?}
 -- the rows to be joined
 unfoldable pub is_two : List ℕ → ℕ → Bool
 is_two fig y = eqb (get_or fig y 0) 2
-
-pub two_yes : (fig : List ℕ) (y : ℕ) → get_or fig y 0 ≡ 2 → is_two fig y ≡ true
-unfolding is_two
-two_yes fig y e = eq-eqb (get_or fig y 0) 2 e
-
-pub two_no : (fig : List ℕ) (y : ℕ) → (get_or fig y 0 ≡ 2 → ⊥) → is_two fig y ≡ false
-unfolding is_two
-two_no fig y e = ne_eqb (get_or fig y 0) 2 e
 
 pub twos_are : (row : ℕ → ℕ → Bool) (C ys fig : List ℕ) → Right row C ys fig → filter (is_two fig) ys ≡ filter (λ x. eqb (count row C x) 2) ys
 unfolding is_two
@@ -250,10 +240,6 @@ pub record Seen (a c : ℕ) (r₀ r : List ℕ) (v : ℕ) : Type 0 where
   pub is : r ≡ set r₀ a v
 
 module _ {lab : ℕ → ℕ} {w long room c : ℕ} {l r : List ℕ} (n : Numbering lab w long room c l r) (i : c < w) where
-  -- the column has a label in the room
-  pub number_in : {v : ℕ} → v ≡ labs l c → v < length r
-  number_in e = omega (arith, e, n.left c (omega arith), n.low c, n.wide)
-
   pub number_at : c < length l
   number_at = omega (arith, n.kept, n.upto)
 
@@ -345,12 +331,11 @@ pub seen-new : (r : List ℕ) (a c : ℕ) → get_or r a 0 ≡ 0 → Seen a c r 
 unfolding seen
 seen-new r a c e = record { value = rw e (omega arith); is = refl }
 
+pub seen_first : (r : List ℕ) (a c : ℕ) → a < length r → get_or r a 0 ≡ 0 → Seen a c r (set r a (c + 1)) (get_or (set r a (c + 1)) a 0)
+seen_first r a c h e = subst (λ (x : ℕ). Seen a c r (set r a (c + 1)) x) (sym (get_or-set_same r a (c + 1) 0 h)) (seen-new r a c e)
+
 pub seen_old : (r : List ℕ) (a c : ℕ) → (get_or r a 0 ≡ 0 → ⊥) → Seen a c r r (get_or r a 0)
 seen_old r a c n = record { value = sym (seen_same (λ k. k) (get_or r a 0) c (omega arith)); is = sym (set-get_or r a 0) }
-
--- a row that is joined has two ones
-pub two-ones : {row : ℕ → ℕ → Bool} {C ys fig : List ℕ} {k : ℕ} → Right row C ys fig → k < length ys → get_or fig (get_or ys k 0) 0 ≡ 2 → count row C (get_or ys k 0) ≡ 2
-two-ones {k = k} r l e = sym (r.at k l) ∙ e
 
 -- put together: no labels, then the pairs, then the numbers
 module _ {l : ℕ} {bits e v fig : List ℕ} {long room : ℕ} (g : Given l bits e v fig long room) {l₀ l₁ : List ℕ} {n : ℕ}

@@ -1,9 +1,7 @@
 -- What phase one begins from, in slices.
 --   shape               a shape from its numbers
 --   Lent, Figured       what the figures are made from, and what they are, for the eligible rows e and the columns v of V
---   lent_columns, lent_rows   the columns of V are below l; each eligible row has a figure
---   lent_degrees        degrees that are the ones
---   lent_given          the labels' part of it
+--   lent_columns        the columns of V are below l
 --   Opens               the lengths of the slices, by the shape
 --   Opened              each slice as phase one begins
 --   opened_one          two outcomes that meet it are equal in what is in use
@@ -12,10 +10,9 @@
 --   opened_figure       an eligible row's figure
 --   opened_state, begins    they are the definition's first state
 -- Assumes nothing.
-use Rattle.std.specs.Prelude.{◌≡◌, refl, ◌⊎◌, List, [], ◌∷◌, ◌++◌, Bool, ℕ, zero, suc, ◌+◌, ◌-◌, ◌*◌, ◌≤◌, ◌<◌, length, get_or, take, drop, eqb}
+use Rattle.std.specs.Prelude.{◌≡◌, refl, ◌⊎◌, List, [], ◌∷◌, ◌++◌, Bool, ℕ, zero, suc, ◌+◌, ◌-◌, ◌*◌, ◌≤◌, ◌<◌, length, get_or, take, eqb}
 use Rattle.std.proofs.Common.{sym, ap, ap₂, subst, ◌∙◌, inl, inr, mul-le-mul_right, arith, length-append, take_at, ext_get_or, eqb-true}
 use Rattle.std.proofs.Math.ListN.{get_or-eq_default}
-use Rattle.loops.specs.Part.{row_within}
 use Rattle.loops.specs.Entry.{entry_at, entry_past}
 use Rattle.rule.specs.Lists.{In, Nodup, filter}
 use Rattle.rule.specs.Sets.{in_filter, nodup_filter, in_at}
@@ -23,7 +20,6 @@ use Rattle.rule.specs.Permitted.{count}
 use Rattle.rule.specs.Rule.{Marks, start, first_singles, first_marks}
 use Rattle.rule.specs.Alike.{filter_alike}
 use Rattle.grid.specs.Grid.{bit, Under, Figures, figures_one}
-use Rattle.figures.specs.Told.{told}
 use Rattle.singles.specs.Facts.{front-one}
 use Rattle.singles.specs.Figures.{Held, Sound}
 use Rattle.labels.specs.Marking.{marks_of, zeros, Ready, marks_one}
@@ -34,7 +30,7 @@ use Rattle.phases.specs.Occ.{occ-append, in_member, once_nodup}
 use Rattle.phases.specs.Fit.{less?}
 use Rattle.phases.proofs.Fit.{rows_once, rows-below}
 use Rattle.opening.specs.Rows.{rows_at_first, rows-at-first}
-use Rattle.opening.specs.Marks.{Given, FirstMarked, zeros_few, under_range}
+use Rattle.opening.specs.Marks.{FirstMarked, zeros_few, under_range}
 
 abbrev pub shape : ℕ → ℕ → ℕ → ℕ → ℕ → Shape
 shape m l s h w = record { m = m; n = l; s = s; h = h; w = w }
@@ -61,23 +57,6 @@ pub record Figured (row : ℕ → ℕ → Bool) (e v : List ℕ) (m degrees room
 module _ {l : ℕ} {bits e v : List ℕ} {m degrees room long sizes : ℕ} (t : Lent l bits e v m degrees room long sizes) where
   pub lent_columns : Under l v
   lent_columns = under_range t.columns t.within
-
-  pub lent_rows : {fig : List ℕ} {f : ℕ → ℕ} → Figures f m fig → Under (length fig) e
-  lent_rows g = record { at = λ k i. omega (arith, t.rows.at k i, g.long) }
-
-  pub lent_degrees : {f : ℕ → ℕ} {fig deg : List ℕ} → Figures f m fig → Figures (told fig) degrees deg → Figures f degrees deg
-  lent_degrees g d = record { long = d.long; each = λ x i. d.each x i ∙ g.each x (omega (arith, t.measured)) }
-
-  pub lent_given : {fig : List ℕ} → Figures (count (bit l bits) v) m fig → Given l bits e v fig long sizes
-  lent_given {fig} g = record {
-    rows = record { at = λ k i. omega (arith, t.matrix, row_within l m (get_or e k 0) (t.rows.at k i)) };
-    figured = lent_rows g;
-    columns = t.columns;
-    within = t.within;
-    right = record { at = λ k i. g.each (get_or e k 0) (t.rows.at k i) };
-    labelled = t.labelled;
-    fits = t.fits;
-  }
 
 -- the lengths of the slices that are lent: the matrix, columns and rows by place, ones, degrees, singles, labels, and room for sizes
 pub record Opens (z : Shape) (bits c d fig deg s labels sizes : ℕ) : Type 0 where
@@ -135,10 +114,6 @@ range_join a (suc k) j =
     let f : suc a + k ≡ a + suc k = omega arith in
     ap (range a) e ∙ ap (λ (l : List ℕ). a ∷ l) (range_join (suc a) k j ∙ ap (λ (i : ℕ). range (suc a) k ++ range i j) f)
 
--- a part from the front, as a slice has it
-front : (k : ℕ) (xs ys : List ℕ) → length xs ≡ k → take (k - 0) (drop 0 (xs ++ ys)) ≡ xs
-front k xs ys e = let z : k - 0 ≡ k = omega arith in rw z (take_at xs ys k e)
-
 -- past the last row there is nothing
 beyond : (l : ℕ) (bits C : List ℕ) (m x : ℕ) → length bits ≤ m * l → m ≤ x → count (bit l bits) C x ≡ 0
 unfolding bit
@@ -166,12 +141,12 @@ module _ {z : Shape} {bits c d fig deg s labels sizes : ℕ} (o : Opens z bits c
   rows_are e = e ∙ ap (λ (i : ℕ). rows_at_first i z.s z.h) o.tall ∙ rows-at-first z
 
   -- V, and the eligible rows
-  pub opens_columns : {cs : List ℕ} → cs ≡ range 0 c → take (z.w - 0) (drop 0 cs) ≡ range 0 z.w
-  opens_columns e = ap (λ (l : List ℕ). take (z.w - 0) (drop 0 l)) (cols_are e) ∙ front z.w (range 0 z.w) (range z.w (z.n - z.w)) (length-range 0 z.w)
+  pub opens_columns : {cs : List ℕ} → cs ≡ range 0 c → take z.w cs ≡ range 0 z.w
+  opens_columns e = ap (take z.w) (cols_are e) ∙ take_at (range 0 z.w) (range z.w (z.n - z.w)) z.w (length-range 0 z.w)
 
-  pub opens_rows : {ds : List ℕ} → ds ≡ rows_at_first d z.s z.h → take (z.m - z.h - 0) (drop 0 ds) ≡ first_rows z
+  pub opens_rows : {ds : List ℕ} → ds ≡ rows_at_first d z.s z.h → take (z.m - z.h) ds ≡ first_rows z
   opens_rows e =
-      ap (λ (l : List ℕ). take (z.m - z.h - 0) (drop 0 l)) (rows_are e) ∙ front (z.m - z.h) (first_rows z) (octet_rows z) (length-rows z o.rows_fit)
+      ap (take (z.m - z.h)) (rows_are e) ∙ take_at (first_rows z) (octet_rows z) (z.m - z.h) (length-rows z o.rows_fit)
 
 lent_at : (z : Shape) (bits : List ℕ) {c d fig deg s labels sizes : ℕ} → Opens z (length bits) c d fig deg s labels sizes
     → Lent z.n bits (first_rows z) (range 0 z.w) fig deg s labels sizes
@@ -192,9 +167,9 @@ lent_at z bits {c} {d} {fig} {deg} {s} {labels} {sizes} o =
 -- what the figures ask
 pub opens_lent : (z : Shape) {bits : List ℕ} {c d fig deg s labels sizes : ℕ} {cs ds : List ℕ} → Opens z (length bits) c d fig deg s labels sizes
     → cs ≡ range 0 c → ds ≡ rows_at_first d z.s z.h
-    → Lent z.n bits (take (z.m - z.h - 0) (drop 0 ds)) (take (z.w - 0) (drop 0 cs)) fig deg s labels sizes
+    → Lent z.n bits (take (z.m - z.h) ds) (take z.w cs) fig deg s labels sizes
 opens_lent z {bits} {c} {d} {fig} {deg} {s} {labels} {sizes} {cs} {ds} o p q =
-    subst (λ (e : List ℕ). Lent z.n bits e (take (z.w - 0) (drop 0 cs)) fig deg s labels sizes) (sym (opens_rows o q))
+    subst (λ (e : List ℕ). Lent z.n bits e (take z.w cs) fig deg s labels sizes) (sym (opens_rows o q))
     (subst (λ (v : List ℕ). Lent z.n bits (first_rows z) v fig deg s labels sizes) (sym (opens_columns o p)) (lent_at z bits o))
 
 module _ (z : Shape) (bits : List ℕ) {c d ones-long deg-long room long sizes : ℕ} (o : Opens z (length bits) c d ones-long deg-long room long sizes)
@@ -246,12 +221,12 @@ module _ (z : Shape) (bits : List ℕ) {c d ones-long deg-long room long sizes :
 -- the whole
 pub opened : (z : Shape) {bits : List ℕ} {c d ones-long deg-long room long sizes : ℕ} {cs ds fig deg s labels : List ℕ} {n next : ℕ}
     → Opens z (length bits) c d ones-long deg-long room long sizes → cs ≡ range 0 c → ds ≡ rows_at_first d z.s z.h
-    → Figured (bit z.n bits) (take (z.m - z.h - 0) (drop 0 ds)) (take (z.w - 0) (drop 0 cs)) ones-long deg-long room long fig deg s labels n next
+    → Figured (bit z.n bits) (take (z.m - z.h) ds) (take z.w cs) ones-long deg-long room long fig deg s labels n next
     → Opened z bits cs ds fig deg s labels n next
 opened z {bits} {c} {d} {ones-long} {deg-long} {room} {long} {sizes} {cs} {ds} {fig} {deg} {s} {labels} {n} {next} o p q f =
     opened_at z bits o
     (subst (λ (e : List ℕ). Figured (bit z.n bits) e (range 0 z.w) ones-long deg-long room long fig deg s labels n next) (opens_rows o q)
-    (subst (λ (v : List ℕ). Figured (bit z.n bits) (take (z.m - z.h - 0) (drop 0 ds)) v ones-long deg-long room long fig deg s labels n next) (opens_columns o p) f)) p q
+    (subst (λ (v : List ℕ). Figured (bit z.n bits) (take (z.m - z.h) ds) v ones-long deg-long room long fig deg s labels n next) (opens_columns o p) f)) p q
 
 -- for the steps that follow
 pub opened_figure : {z : Shape} {bits c d fig deg s labels : List ℕ} {n next : ℕ} → z.s + z.h + z.h ≤ z.m → Opened z bits c d fig deg s labels n next

@@ -6,7 +6,7 @@
 --   Laying                       of m rows, j of the octet rows, from row s on, have changed places with those from row b on
 --   lay-start, lay-next, lay_end   that begins, has one exchange more, gives the definition's rows when all octet rows are exchanged
 --   Exchanging                   j octet rows are exchanged, one by one, with the last rows
---   exchange_start, exchange_next, exchange_within, exchange_end   that begins, makes a turn, stays within the rows, is over
+--   exchange_start, exchange_next, exchange_end   that begins, makes a turn, is over
 -- Assumes nothing.
 use Rattle.std.specs.Prelude.{◌≡◌, refl, ◌⊎◌, List, ◌++◌, ℕ, ◌+◌, ◌-◌, ◌≤◌, ◌<◌, length, get_or, set}
 use Rattle.std.proofs.Common.{sym, ap, subst, ◌∙◌, inl, inr, append_assoc, arith, length-append, get_or-append-add, ext_get_or, below_more}
@@ -156,10 +156,6 @@ module _ {m s h b j : ℕ} {d : List ℕ} (x : Exchanging m s h b j d) where
     ends = x.ends;
     apart = x.apart;
   }
-
-  -- both places are within the list
-  pub exchange_within : j < h → (s + j < length d) × (b + j < length d)
-  exchange_within i = (omega (arith, x.lay.long, x.ends, x.apart), omega (arith, x.lay.long, x.ends))
 
   over : h ≤ j → d ≡ rows_at_first m s h
   unfolding rows_at_first

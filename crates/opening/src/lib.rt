@@ -12,21 +12,16 @@ ghost use Rattle.opening.specs.Rows.{rows_at_first};
 ghost use Rattle.opening.specs.Marks.{is_two, Outside, Seen, Numbered, Given, FirstMarked};
 ghost use Rattle.opening.specs.Opened.{shape, Lent, Figured, Opens, Opened};
 
-// How many rows have a single one, and the next label.
-#[derive(Clone, Copy)]
-pub struct Begun {
-    pub singles: usize,
-    pub next: usize,
-}
+use grid::{Grid, Shape};
+use labels::Labels;
+use singles::Singles;
 
 // The numbers from 0 on.
 fn numbers(s: &mut [usize])
     ensures { s.new ≡ range 0 (length s.old) }
 {
-    let mut k = 0;
-    while k < s.len() {
-        s[k] = k;
-        k += 1;
+    for (k, x) in s.iter_mut().enumerate() {
+        *x = k;
     }
 }
 
@@ -37,36 +32,23 @@ fn first_rows(d: &mut [usize], s: usize, h: usize)
 {
     numbers(d);
     let b = d.len() - h;
-    let mut j = 0;
-    while j < h {
+    for j in 0..h {
         columns::swap(d, s + j, b + j);
-        j += 1;
     }
 }
 
-// The rows of ys with two ones in v, by the figures, are joined, from the top; n is the next label.
-fn add_twos(
-    bits: &[u8],
-    l: usize,
-    ys: &[usize],
-    v: &[usize],
-    fig: &[usize],
-    labels: &mut [usize],
-    n: usize,
-) -> usize
-    requires { (Rows l (length bits.now) ys.now) × (Under (length fig.now) ys.now) × (Under l v.now) × (Right (bit l bits.now) v.now ys.now fig.now) × (Ready labels.old n) × (l ≤ length labels.old) }
-    ensures { Marked (add_pairs (bit l bits.now) v.now (marks_of labels.old n) (filter (is_two fig.now) ys.now)) labels.old n labels.new result }
+// The rows of ys with two ones in v, by the figures, are joined, from the top.
+#[tactic(auto, unfolding(crate::specs::Marks::is_two))]
+fn add_twos(g: Grid<'_>, ys: &[usize], v: &[usize], fig: &[usize], labels: &mut Labels<'_>)
+    requires { (Rows g.l (length g.bits.now) ys.now) × (Under (length fig.now) ys.now) × (Under g.l v.now) × (Right (bit g.l g.bits.now) v.now ys.now fig.now) × (Ready labels.old.of.now labels.old.next) × (g.l ≤ length labels.old.of.now) }
+    ensures same_labels { labels.new.of.ghost_name ≡ labels.old.of.ghost_name }
+    ensures marked { Marked (add_pairs (bit g.entry.l g.entry.bits.now) v.now (marks_of labels.old.of.now labels.old.next) (filter (is_two fig.now) ys.now)) labels.old.of.now labels.old.next labels.new.of.now labels.new.next }
 {
-    let mut m = n;
-    let mut k = 0;
-    while k < ys.len() {
-        let y = ys[k];
+    for &y in ys {
         if figures::ones_of(fig, y) == 2 {
-            m = labels::add_row(bits, l, y, v, labels, m);
+            labels.add_row(g, y, v);
         }
-        k += 1;
     }
-    m
 }
 
 // One more than the first column that has label a, which is c if none was seen before.
@@ -74,105 +56,90 @@ fn first_seen(least: &mut [usize], a: usize, c: usize) -> usize
     requires { (a < length least.old) × (c + 1 < 18446744073709551616) }
     ensures { Seen a c least.old least.new result }
 {
-    let v = least[a];
-    if v == 0 {
-        let n = c + 1;
-        least[a] = n;
-        return n;
+    if least[a] == 0 {
+        least[a] = c + 1;
     }
-    v
+    least[a]
 }
 
 // Each label becomes one more than the least column that has it; w is the columns in V, and `least` is room, one entry a label.
-fn by_least(w: usize, labels: &mut [usize], least: &mut [usize])
-    requires { (w ≤ length labels.old) × (((c : ℕ) → labs labels.old c < length least.old)) × (Outside (labs labels.old) (range 0 w)) }
-    ensures { Numbered w labels.old labels.new }
+fn by_least(w: usize, labels: &mut Labels<'_>, least: &mut [usize])
+    requires { (w ≤ length labels.old.of.now) × (((c : ℕ) → labs labels.old.of.now c < length least.old)) × (Outside (labs labels.old.of.now) (range 0 w)) }
+    ensures same_labels { labels.new.of.ghost_name ≡ labels.old.of.ghost_name }
+    ensures numbered { Numbered w labels.old.of.now labels.new.of.now }
 {
     grid::clear(least);
-    let mut c = 0;
-    while c < w {
-        let a = labels[c];
+    for c in 0..w {
+        let a = labels.of[c];
         if a != 0 {
-            let n = first_seen(least, a, c);
-            labels[c] = n;
+            labels.of[c] = first_seen(least, a, c);
         }
-        c += 1;
     }
 }
 
-// The labels before the first step, and the next label: e is the eligible rows and v the columns of V, which are those below its length; `least` is room.
+// The labels before the first step: e is the eligible rows and v the columns of V, which are those below its length; `least` is room.
 fn first_marks(
-    bits: &[u8],
-    l: usize,
+    g: Grid<'_>,
     e: &[usize],
     v: &[usize],
     fig: &[usize],
-    labels: &mut [usize],
+    labels: &mut Labels<'_>,
     least: &mut [usize],
-) -> usize
-    requires { Given l bits.now e.now v.now fig.now (length labels.old) (length least.old) }
-    ensures { FirstMarked (bit l bits.now) v.now e.now (length labels.old) labels.new result }
+)
+    requires { Given g.l g.bits.now e.now v.now fig.now (length labels.old.of.now) (length least.old) }
+    ensures same_labels { labels.new.of.ghost_name ≡ labels.old.of.ghost_name }
+    ensures marked { FirstMarked (bit g.entry.l g.entry.bits.now) v.now e.now (length labels.old.of.now) labels.new.of.now labels.new.next }
 {
-    grid::clear(labels);
-    add_twos(bits, l, e, v, fig, labels, 1);
+    grid::clear(labels.of);
+    labels.next = 1;
+    add_twos(g, e, v, fig, labels);
     let w = v.len();
     by_least(w, labels, least);
-    w + 1
+    labels.next = w + 1;
 }
 
 // The figures before the first step: each row's ones in V, which are its degree too, the rows with a single one, and the labels.
-fn figures(
-    bits: &[u8],
-    l: usize,
+fn figures<'a>(
+    g: Grid<'_>,
     e: &[usize],
     v: &[usize],
     ones: &mut [usize],
     deg: &mut [usize],
-    s: &mut [usize],
-    labels: &mut [usize],
+    s: &'a mut [usize],
+    labels: &mut Labels<'_>,
     sizes: &mut [usize],
-) -> Begun
-    requires { Lent l bits.now e.now v.now (length ones.old) (length deg.old) (length s.old) (length labels.old) (length sizes.old) }
-    ensures { Figured (bit l bits.now) e.now v.now (length ones.old) (length deg.old) (length s.old) (length labels.old) ones.new deg.new s.new labels.new result.singles result.next }
+) -> Singles<'a>
+    requires { Lent g.l g.bits.now e.now v.now (length ones.old) (length deg.old) (length s.old) (length labels.old.of.now) (length sizes.old) }
+    ensures same_room { result.room.ghost_name ≡ s.entry.ghost_name }
+    ensures same_labels { labels.new.of.ghost_name ≡ labels.old.of.ghost_name }
+    ensures figured { Figured (bit g.entry.l g.entry.bits.now) e.now v.now (length ones.old) (length deg.old) (length s.old) (length labels.old.of.now) ones.new deg.new result.room.now labels.new.of.now result.used labels.new.next }
 {
-    figures::counts(bits, l, v, ones);
+    figures::counts(g, v, ones);
     figures::degrees(ones, deg);
-    let singles = singles::first_singles(e, ones, s);
-    let next = first_marks(bits, l, e, v, ones, labels, sizes);
-    Begun { singles, next }
+    first_marks(g, e, v, ones, labels, sizes);
+    Singles::new(s, e, ones)
 }
 
-// Phase one's slices before its first step: m rows of l columns, of which h from row s on are octet rows, and w columns in V; `sizes` is room.
-pub fn start(
+// Phase one's slices before its first step; `sizes` is room.
+pub fn start<'a>(
     bits: &[u8],
-    m: usize,
-    l: usize,
-    s: usize,
-    h: usize,
-    w: usize,
+    z: Shape,
     c: &mut [usize],
     d: &mut [usize],
     ones: &mut [usize],
     deg: &mut [usize],
-    singles: &mut [usize],
-    labels: &mut [usize],
+    singles: &'a mut [usize],
+    labels: &mut Labels<'_>,
     sizes: &mut [usize],
-) -> Begun
-    requires { Opens (shape m l s h w) (length bits.now) (length c.old) (length d.old) (length ones.old) (length deg.old) (length singles.old) (length labels.old) (length sizes.old) }
-    ensures { Opened (shape m l s h w) bits.now c.new d.new ones.new deg.new singles.new labels.new result.singles result.next }
+) -> Singles<'a>
+    requires { Opens (shape z.m z.l z.s z.h z.w) (length bits.now) (length c.old) (length d.old) (length ones.old) (length deg.old) (length singles.old) (length labels.old.of.now) (length sizes.old) }
+    ensures same_room { result.room.ghost_name ≡ singles.entry.ghost_name }
+    ensures same_labels { labels.new.of.ghost_name ≡ labels.old.of.ghost_name }
+    ensures opened { Opened (shape z.m z.l z.s z.h z.w) bits.now c.new d.new ones.new deg.new result.room.now labels.new.of.now result.used labels.new.next }
 {
+    let g = Grid { bits, l: z.l };
+    let top = z.m - z.h;
     numbers(c);
-    first_rows(d, s, h);
-    let top = m - h;
-    figures(
-        bits,
-        l,
-        &d[0..top],
-        &c[0..w],
-        ones,
-        deg,
-        singles,
-        labels,
-        sizes,
-    )
+    first_rows(d, z.s, z.h);
+    figures(g, &d[..top], &c[..z.w], ones, deg, singles, labels, sizes)
 }

@@ -12,12 +12,10 @@
 --   word_undoable the same of a word
 -- What a test that passed says is in Facts.
 -- Assumes nothing.
-use Rattle.std.specs.Prelude.{ℕ, Bool, true, false, not, ◌&&◌, ◌||◌, List, [], ◌∷◌, leb, ltb, eqb, length}
+use Rattle.std.specs.Prelude.{ℕ, Bool, true, false, not, ◌&&◌, ◌||◌, List, [], ◌∷◌, leb, ltb, eqb, length, Option, Some, None}
 use Rattle.bounds.specs.Bounds.{most_rows, most_ops}
 use Rattle.oplist.specs.declared.Op.{Op}
 use Rattle.oplist.specs.declared.Op.TheVariants.{AddAssign, MulAssign, FMA}
-use Rattle.oplist.specs.declared.Word.{Word}
-use Rattle.oplist.specs.declared.Word.TheVariants.{Known, Unknown}
 use Rattle.oplist.specs.Word.{meaning}
 
 -- n operations on m rows, for l columns
@@ -33,9 +31,9 @@ op_fine m (AddAssign d s) = two_rows m d s
 op_fine m (MulAssign d x) = ltb d m
 op_fine m (FMA d s x) = two_rows m d s
 
-abbrev pub word_fine : ℕ → Word → Bool
-word_fine m (Known o) = op_fine m o
-word_fine m Unknown = false
+abbrev pub word_fine : ℕ → Option Op → Bool
+word_fine m (Some o) = op_fine m o
+word_fine m None = false
 
 unfoldable pub list_fine : ℕ → List ℕ → Bool
 list_fine m [] = true
@@ -59,9 +57,9 @@ op_undoable (AddAssign d s) = true
 op_undoable (MulAssign d x) = not (eqb x 0)
 op_undoable (FMA d s x) = true
 
-abbrev pub word_undoable : Word → Bool
-word_undoable (Known o) = op_undoable o
-word_undoable Unknown = true
+abbrev pub word_undoable : Option Op → Bool
+word_undoable (Some o) = op_undoable o
+word_undoable None = true
 
 unfoldable pub undoable : List Op → Bool
 undoable [] = true

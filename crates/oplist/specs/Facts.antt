@@ -12,24 +12,18 @@
 --   Order                           l entries below m, none twice
 --   order_fine-order, order-order_fine   the check of an order is just that
 --   undoable-each, each-undoable       the check for undo is just that no MulAssign is by zero
---   has_hit, has_miss, has-over       a search finds the entry, goes on, is over
---   rows_high, rows_twice, rows_next, rows-over   a check of entries fails by a bound or a repeat, goes on, is over
---   list_fine-drop, rows_fine-drop, has-drop, undoable-drop   the checks, entry by entry
 -- Assumes nothing.
-use Rattle.std.specs.Prelude.{ℕ, zero, suc, ◌+◌, ◌<◌, ◌≤◌, ◌≡◌, refl, ◌≢◌, Bool, true, false, not, ◌&&◌, ◌||◌, List, [], ◌∷◌, leb, ltb, eqb, length, get_or, drop}
+use Rattle.std.specs.Prelude.{ℕ, zero, suc, ◌<◌, ◌≤◌, ◌≡◌, refl, ◌≢◌, Bool, true, false, not, ◌&&◌, ◌||◌, List, [], ◌∷◌, leb, ltb, eqb, length, get_or, Option, Some, None}
 use Rattle.std.proofs.Math.Path.{sym, ap}
-use Rattle.std.proofs.Common.{◌∙◌, arith, leb-true, ltb-true, eqb-true, le-leb, lt-ltb, le-ltb, eq-eqb, ne_eqb, drop_of_length-le}
+use Rattle.std.proofs.Common.{◌∙◌, arith, leb-true, ltb-true, eqb-true, le-leb, lt-ltb, eq-eqb, ne_eqb}
 use Rattle.std.proofs.lemmas.Bool.{eqb-false, not-true}
-use Rattle.loops.specs.Part.{drop-next}
 use Rattle.oplist.specs.declared.Op.{Op}
 use Rattle.oplist.specs.declared.Op.TheVariants.{AddAssign, MulAssign, FMA}
-use Rattle.oplist.specs.declared.Word.{Word}
-use Rattle.oplist.specs.declared.Word.TheVariants.{Known, Unknown}
 use Rattle.oplist.specs.Ops.{Within, Apart, Nonzero, Each}
 use Rattle.oplist.specs.Word.{meaning}
-use Rattle.oplist.specs.Listed.{is_known, with_op, known, ops_of, ops_of-drop}
+use Rattle.oplist.specs.Listed.{is_known, with_op, known, ops_of}
 use Rattle.bounds.specs.Bounds.{most_rows, most_ops}
-use Rattle.oplist.specs.Check.{shape_fine, two_rows, op_fine, word_fine, list_fine, has, rows_fine, order_fine, op_undoable, word_undoable, undoable}
+use Rattle.oplist.specs.Check.{shape_fine, two_rows, op_fine, word_fine, list_fine, has, rows_fine, order_fine, op_undoable, undoable}
 
 pub never : {A : Type 0} → false ≡ true → A
 never e = let z : ◌≡◌ {A = ℕ} 0 1 = cc in absurd (omega arith)
@@ -107,9 +101,9 @@ fine_op_fine m (FMA d s x) f = two_passes m d s f.within.0 f.within.1 f.apart
 
 -- lists
 
-fine_known : (m : ℕ) (w : Word) → word_fine m w ≡ true → is_known w ≡ true
-fine_known m (Known o) e = refl
-fine_known m Unknown e = e
+fine_known : (m : ℕ) (w : Option Op) → word_fine m w ≡ true → is_known w ≡ true
+fine_known m (Some o) e = refl
+fine_known m None e = e
 
 pub list_fine-known : (m : ℕ) (ws : List ℕ) → list_fine m ws ≡ true → known ws ≡ true
 unfolding list_fine known
@@ -118,9 +112,9 @@ list_fine-known m (w ∷ ws) e =
     and_both (fine_known m (meaning w) (and_left (word_fine m (meaning w)) (list_fine m ws) e))
     (list_fine-known m ws (and_right (word_fine m (meaning w)) (list_fine m ws) e))
 
-each-with : (m : ℕ) (w : Word) (os : List Op) → word_fine m w ≡ true → Each (Fine m) os → Each (Fine m) (with_op w os)
-each-with m (Known o) os e h = (op_fine_fine m o e, h)
-each-with m Unknown os e h = h
+each-with : (m : ℕ) (w : Option Op) (os : List Op) → word_fine m w ≡ true → Each (Fine m) os → Each (Fine m) (with_op w os)
+each-with m (Some o) os e h = (op_fine_fine m o e, h)
+each-with m None os e h = h
 
 pub list_fine-each : (m : ℕ) (ws : List ℕ) → list_fine m ws ≡ true → Each (Fine m) (ops_of ws)
 unfolding list_fine ops_of
@@ -134,15 +128,10 @@ unfolding list_fine known ops_of
 each-list_fine m [] k h = refl
 each-list_fine m (w ∷ ws) k h = at (meaning w) (each-list_fine m ws) k h
   where
-    at : (v : Word) → (known ws ≡ true → Each (Fine m) (ops_of ws) → list_fine m ws ≡ true)
+    at : (v : Option Op) → (known ws ≡ true → Each (Fine m) (ops_of ws) → list_fine m ws ≡ true)
         → (is_known v && known ws) ≡ true → Each (Fine m) (with_op v (ops_of ws)) → (word_fine m v && list_fine m ws) ≡ true
-    at (Known o) ih e h = and_both (fine_op_fine m o h.0) (ih e h.1)
-    at Unknown ih e h = never e
-
-pub list_fine-drop : (m : ℕ) (ws : List ℕ) (k : ℕ) → k < length ws
-    → list_fine m (drop k ws) ≡ (word_fine m (meaning (get_or ws k 0)) && list_fine m (drop (k + 1) ws))
-unfolding list_fine
-list_fine-drop m ws k h = rw (drop-next ws k h)
+    at (Some o) ih e h = and_both (fine_op_fine m o h.0) (ih e h.1)
+    at None ih e h = never e
 
 -- undo
 
@@ -166,50 +155,7 @@ each-undoable (o ∷ os) h = and_both (at o h.0) (each-undoable os h.1)
     at (MulAssign d x) q = rw (ne_eqb x 0 q)
     at (FMA d s x) q = refl
 
-pub undoable-drop : (ws : List ℕ) (k : ℕ) → k < length ws
-    → undoable (ops_of (drop k ws)) ≡ (word_undoable (meaning (get_or ws k 0)) && undoable (ops_of (drop (k + 1) ws)))
-unfolding undoable
-undoable-drop ws k h = ap undoable (ops_of-drop ws k h) ∙ at (meaning (get_or ws k 0)) (ops_of (drop (k + 1) ws))
-  where
-    at : (v : Word) (os : List Op) → undoable (with_op v os) ≡ (word_undoable v && undoable os)
-    at (Known o) os = refl
-    at Unknown os = refl
-
 -- orders
-
-pub has-drop : (x : ℕ) (xs : List ℕ) (k : ℕ) → k < length xs → has x (drop k xs) ≡ (eqb (get_or xs k 0) x || has x (drop (k + 1) xs))
-unfolding has
-has-drop x xs k h = rw (drop-next xs k h)
-
-pub rows_fine-drop : (m : ℕ) (xs : List ℕ) (k : ℕ) → k < length xs
-    → rows_fine m (drop k xs) ≡ (ltb (get_or xs k 0) m && (not (has (get_or xs k 0) (drop (k + 1) xs)) && rows_fine m (drop (k + 1) xs)))
-unfolding rows_fine
-rows_fine-drop m xs k h = rw (drop-next xs k h)
-
-module _ (x : ℕ) (xs : List ℕ) (a k : ℕ) (inv : has x (drop a xs) ≡ has x (drop k xs)) where
-  pub has_hit : k < length xs → get_or xs k 0 ≡ x → true ≡ has x (drop a xs)
-  has_hit h e = sym (inv ∙ has-drop x xs k h ∙ rw (eq-eqb (get_or xs k 0) x e))
-
-  pub has_miss : k < length xs → (get_or xs k 0 ≡ x → ⊥) → has x (drop a xs) ≡ has x (drop (k + 1) xs)
-  has_miss h e = inv ∙ has-drop x xs k h ∙ rw (ne_eqb (get_or xs k 0) x e)
-
-  pub has-over : length xs ≤ k → false ≡ has x (drop a xs)
-  unfolding has
-  has-over h = sym (inv ∙ ap (has x) (drop_of_length-le xs h))
-
-module _ (m : ℕ) (xs : List ℕ) (k : ℕ) (inv : rows_fine m xs ≡ rows_fine m (drop k xs)) where
-  pub rows_high : k < length xs → m ≤ get_or xs k 0 → false ≡ rows_fine m xs
-  rows_high h e = sym (inv ∙ rows_fine-drop m xs k h ∙ rw (le-ltb (get_or xs k 0) m e))
-
-  pub rows_twice : k < length xs → get_or xs k 0 < m → has (get_or xs k 0) (drop (k + 1) xs) ≡ true → false ≡ rows_fine m xs
-  rows_twice h e t = sym (inv ∙ rows_fine-drop m xs k h ∙ rw (lt-ltb (get_or xs k 0) m e, t))
-
-  pub rows_next : k < length xs → get_or xs k 0 < m → has (get_or xs k 0) (drop (k + 1) xs) ≡ false → rows_fine m xs ≡ rows_fine m (drop (k + 1) xs)
-  rows_next h e t = inv ∙ rows_fine-drop m xs k h ∙ rw (lt-ltb (get_or xs k 0) m e, t)
-
-  pub rows-over : length xs ≤ k → true ≡ rows_fine m xs
-  unfolding rows_fine
-  rows-over h = sym (inv ∙ ap (rows_fine m) (drop_of_length-le xs h))
 
 has-at : (x : ℕ) (xs : List ℕ) (i : ℕ) → i < length xs → get_or xs i 0 ≡ x → has x xs ≡ true
 unfolding has

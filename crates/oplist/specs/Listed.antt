@@ -8,26 +8,24 @@
 --   room_says                 a list that was recorded and fits stands at the front of its room
 --   small_ops_of               what words say has fields that fit
 -- Assumes nothing.
-use Rattle.std.specs.Prelude.{ℕ, suc, ◌+◌, ◌≤◌, ◌<◌, ◌≡◌, refl, Bool, true, false, ◌&&◌, List, [], ◌∷◌, ◌++◌, map, length, get_or, take, drop}
+use Rattle.std.specs.Prelude.{ℕ, suc, ◌+◌, ◌≤◌, ◌<◌, ◌≡◌, refl, Bool, true, false, ◌&&◌, List, [], ◌∷◌, ◌++◌, map, length, get_or, take, drop, Option, Some, None}
 use Rattle.std.proofs.Common.{sym, ap, ap₂, ◌∙◌, add-one, arith, take-suc, take_at}
 use Rattle.std.proofs.lemmas.List.{length-map}
 use Rattle.std.proofs.lemmas.List.Edits.{sets-eq}
 use Rattle.loops.specs.Part.{drop-next}
 use Rattle.loops.specs.Room.{Log, log, puts, puts_fit}
 use Rattle.oplist.specs.declared.Op.{Op}
-use Rattle.oplist.specs.declared.Word.{Word}
-use Rattle.oplist.specs.declared.Word.TheVariants.{Known, Unknown}
 use Rattle.oplist.specs.Ops.{Each}
 use Rattle.oplist.specs.Word.{Small, packed, meaning, meaning-packed, packed-meaning}
 
-abbrev pub is_known : Word → Bool
-is_known (Known o) = true
-is_known Unknown = false
+abbrev pub is_known : Option Op → Bool
+is_known (Some o) = true
+is_known None = false
 
 -- the operation of a word before others
-abbrev pub with_op : Word → List Op → List Op
-with_op (Known o) os = o ∷ os
-with_op Unknown os = os
+abbrev pub with_op : Option Op → List Op → List Op
+with_op (Some o) os = o ∷ os
+with_op None os = os
 
 unfoldable pub known : List ℕ → Bool
 known [] = true
@@ -42,9 +40,9 @@ unfolding ops_of
 ops_of-append [] b = refl
 ops_of-append (w ∷ a) b = at (meaning w) (ops_of-append a b)
   where
-    at : (m : Word) → ops_of (a ++ b) ≡ ops_of a ++ ops_of b → with_op m (ops_of (a ++ b)) ≡ with_op m (ops_of a) ++ ops_of b
-    at (Known o) e = ap (λ (l : List Op). o ∷ l) e
-    at Unknown e = e
+    at : (m : Option Op) → ops_of (a ++ b) ≡ ops_of a ++ ops_of b → with_op m (ops_of (a ++ b)) ≡ with_op m (ops_of a) ++ ops_of b
+    at (Some o) e = ap (λ (l : List Op). o ∷ l) e
+    at None e = e
 
 pub ops_of-drop : (ws : List ℕ) (k : ℕ) → k < length ws → ops_of (drop k ws) ≡ with_op (meaning (get_or ws k 0)) (ops_of (drop (k + 1) ws))
 unfolding ops_of
@@ -69,27 +67,27 @@ unfolding known ops_of
 packed-ops_of [] h = refl
 packed-ops_of (w ∷ ws) h = at (meaning w) refl (packed-ops_of ws) h
   where
-    at : (m : Word) → meaning w ≡ m → (known ws ≡ true → map packed (ops_of ws) ≡ ws) → is_known m && known ws ≡ true → map packed (with_op m (ops_of ws)) ≡ w ∷ ws
-    at (Known o) e ih k = ap₂ (λ (x : ℕ) (l : List ℕ). x ∷ l) (sym (packed-meaning w o e).is) (ih k)
-    at Unknown e ih k = let z : ◌≡◌ {A = ℕ} 0 1 = cc in absurd (omega arith)
+    at : (m : Option Op) → meaning w ≡ m → (known ws ≡ true → map packed (ops_of ws) ≡ ws) → is_known m && known ws ≡ true → map packed (with_op m (ops_of ws)) ≡ w ∷ ws
+    at (Some o) e ih k = ap₂ (λ (x : ℕ) (l : List ℕ). x ∷ l) (sym (packed-meaning w o e).is) (ih k)
+    at None e ih k = let z : ◌≡◌ {A = ℕ} 0 1 = cc in absurd (omega arith)
 
 pub length-ops_of : (ws : List ℕ) → known ws ≡ true → length (ops_of ws) ≡ length ws
 unfolding known ops_of
 length-ops_of [] h = refl
 length-ops_of (w ∷ ws) h = at (meaning w) (length-ops_of ws) h
   where
-    at : (m : Word) → (known ws ≡ true → length (ops_of ws) ≡ length ws) → is_known m && known ws ≡ true → length (with_op m (ops_of ws)) ≡ suc (length ws)
-    at (Known o) ih k = ap suc (ih k)
-    at Unknown ih k = let z : ◌≡◌ {A = ℕ} 0 1 = cc in absurd (omega arith)
+    at : (m : Option Op) → (known ws ≡ true → length (ops_of ws) ≡ length ws) → is_known m && known ws ≡ true → length (with_op m (ops_of ws)) ≡ suc (length ws)
+    at (Some o) ih k = ap suc (ih k)
+    at None ih k = let z : ◌≡◌ {A = ℕ} 0 1 = cc in absurd (omega arith)
 
 pub small_ops_of : (ws : List ℕ) → Each Small (ops_of ws)
 unfolding ops_of
 small_ops_of [] = tt
 small_ops_of (w ∷ ws) = at (meaning w) refl (small_ops_of ws)
   where
-    at : (m : Word) → meaning w ≡ m → Each Small (ops_of ws) → Each Small (with_op m (ops_of ws))
-    at (Known o) e ih = ((packed-meaning w o e).small, ih)
-    at Unknown e ih = ih
+    at : (m : Option Op) → meaning w ≡ m → Each Small (ops_of ws) → Each Small (with_op m (ops_of ws))
+    at (Some o) e ih = ((packed-meaning w o e).small, ih)
+    at None e ih = ih
 
 pub room_says : (os : List Op) (ws : List ℕ) → length os ≤ length ws → Each Small os → ops_of (take (length os) (puts packed (log ws 0) os).words) ≡ os
 room_says os ws h k =

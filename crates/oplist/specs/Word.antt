@@ -3,7 +3,7 @@
 --   kind_of, scalar_of, dest_of, src_of  the fields of a word
 --   packed                           the word of an operation: kind 1, 2, 3 for AddAssign, MulAssign, FMA, a field that it lacks zero
 --   pick_word                         one of two, by a test
---   meaning                          the operation of a word; a word that is no operation's is an unknown kind
+--   meaning                          the operation of a word, where it is one's
 --   Small                            an operation's fields fit their places in a word
 --   Fields, fields                   the fields of a word that was made from fields which fit
 --   Packs                            a word is an operation's, and the operation's fields fit
@@ -11,13 +11,11 @@
 --   small_within                     rows below 65,536 and an octet as scalar fit
 --   packed_small, packed-one         the word of an operation fits 64 bits; two operations have two words
 -- Assumes nothing.
-use Rattle.std.specs.Prelude.{ℕ, ◌+◌, ◌*◌, ◌/◌, ◌%◌, ◌^◌, ◌<◌, ◌≤◌, ◌≡◌, refl, Bool, true, false, eqb}
+use Rattle.std.specs.Prelude.{ℕ, ◌+◌, ◌*◌, ◌/◌, ◌%◌, ◌^◌, ◌<◌, ◌≤◌, ◌≡◌, refl, Bool, true, false, eqb, Option, Some, None}
 use Rattle.std.proofs.Common.{ap, ◌∙◌, sym, subst, div-add-mod', arith, eqb-true}
 use Rattle.std.proofs.Math.Nat.{div-div-eq-div-mul}
 use Rattle.oplist.specs.declared.Op.{Op}
 use Rattle.oplist.specs.declared.Op.TheVariants.{AddAssign, MulAssign, FMA}
-use Rattle.oplist.specs.declared.Word.{Word}
-use Rattle.oplist.specs.declared.Word.TheVariants.{Known, Unknown}
 use Rattle.oplist.specs.Ops.{Within, scalar}
 
 abbrev pub word : ℕ → ℕ → ℕ → ℕ → ℕ
@@ -41,15 +39,15 @@ packed (AddAssign d s) = word 1 0 d s
 packed (MulAssign d x) = word 2 x d 0
 packed (FMA d s x) = word 3 x d s
 
-abbrev pub pick_word : Bool → Word → Word → Word
+abbrev pub pick_word : Bool → Option Op → Option Op → Option Op
 pick_word true a b = a
 pick_word false a b = b
 
-unfoldable pub meaning : ℕ → Word
+unfoldable pub meaning : ℕ → Option Op
 meaning w =
-    pick_word (eqb (kind_of w) 1) (pick_word (eqb (scalar_of w) 0) (Known (AddAssign (dest_of w) (src_of w))) Unknown)
-    (pick_word (eqb (kind_of w) 2) (pick_word (eqb (src_of w) 0) (Known (MulAssign (dest_of w) (scalar_of w))) Unknown)
-    (pick_word (eqb (kind_of w) 3) (Known (FMA (dest_of w) (src_of w) (scalar_of w))) Unknown))
+    pick_word (eqb (kind_of w) 1) (pick_word (eqb (scalar_of w) 0) (Some (AddAssign (dest_of w) (src_of w))) None)
+    (pick_word (eqb (kind_of w) 2) (pick_word (eqb (src_of w) 0) (Some (MulAssign (dest_of w) (scalar_of w))) None)
+    (pick_word (eqb (kind_of w) 3) (Some (FMA (dest_of w) (src_of w) (scalar_of w))) None))
 
 abbrev pub Small : Op → Type 0
 Small (AddAssign d s) = (d < 65536) × (s < 65536)
@@ -73,7 +71,7 @@ fields k x d s hx hd hs =
     let b : word k x d s / 4294967296 ≡ k * 256 + x = omega arith in
     record { kind = omega arith; scalar = rw b (omega arith); dest = rw a (omega arith); src = omega arith }
 
-pub meaning-packed : (o : Op) → Small o → meaning (packed o) ≡ Known o
+pub meaning-packed : (o : Op) → Small o → meaning (packed o) ≡ Some o
 unfolding meaning packed
 meaning-packed (AddAssign d s) h =
     let f = fields 1 0 d s (omega arith) h.0 h.1 in
@@ -100,20 +98,20 @@ pub record Packs (w : ℕ) (o : Op) : Type 0 where
   pub is : w ≡ packed o
   pub small : Small o
 
-pub packed-meaning : (w : ℕ) (o : Op) → meaning w ≡ Known o → Packs w o
+pub packed-meaning : (w : ℕ) (o : Op) → meaning w ≡ Some o → Packs w o
 unfolding meaning packed
 packed-meaning w o h = go (eqb (kind_of w) 1) (eqb (scalar_of w) 0) (eqb (kind_of w) 2) (eqb (src_of w) 0) (eqb (kind_of w) 3) refl refl refl refl refl h
   where
-    made : (p : Op) → Packs w p → Known p ≡ Known o → Packs w o
+    made : (p : Op) → Packs w p → Some p ≡ Some o → Packs w o
     made p q e = let f : p ≡ o = cc in subst (Packs w) f q
 
-    never : Unknown ≡ Known o → Packs w o
+    never : None ≡ Some o → Packs w o
     never e = let z : ◌≡◌ {A = ℕ} 0 1 = cc in absurd (omega arith)
 
     go : (a b c d e : Bool) → eqb (kind_of w) 1 ≡ a → eqb (scalar_of w) 0 ≡ b → eqb (kind_of w) 2 ≡ c → eqb (src_of w) 0 ≡ d → eqb (kind_of w) 3 ≡ e
-        → pick_word a (pick_word b (Known (AddAssign (dest_of w) (src_of w))) Unknown)
-        (pick_word c (pick_word d (Known (MulAssign (dest_of w) (scalar_of w))) Unknown)
-        (pick_word e (Known (FMA (dest_of w) (src_of w) (scalar_of w))) Unknown)) ≡ Known o
+        → pick_word a (pick_word b (Some (AddAssign (dest_of w) (src_of w))) None)
+        (pick_word c (pick_word d (Some (MulAssign (dest_of w) (scalar_of w))) None)
+        (pick_word e (Some (FMA (dest_of w) (src_of w) (scalar_of w))) None)) ≡ Some o
         → Packs w o
     go true true c d e ea eb ec ed ee q =
         let k = eqb-true (kind_of w) 1 ea in
@@ -141,5 +139,5 @@ packed_small (FMA d s x) h = omega arith
 
 pub packed-one : (o p : Op) → Small o → Small p → packed o ≡ packed p → o ≡ p
 packed-one o p h k e =
-    let q : Known o ≡ Known p = sym (meaning-packed o h) ∙ ap meaning e ∙ meaning-packed p k in
+    let q : Some o ≡ Some p = sym (meaning-packed o h) ∙ ap meaning e ∙ meaning-packed p k in
     cc

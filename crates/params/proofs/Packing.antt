@@ -1,62 +1,43 @@
 -- A scan of the packed table gives the row for k, packed.
---   scan_hit, scan_miss, scan-over   a scan ends at a row, passes one, finds no more
 --   front_small   a part of a small sum is small
---   word e        an entry as a number: 0 where there is no row
---   packed_none, packed-some   what 0 answers, and any other number
+--   word e        an entry, packed
+--   found_packed, long_packed   what a packed row answers, by its L
 --   scan-table    the scan of the packed table
---   word-packed   its sums are safe
---   word-answer   it answers what the entry does
+--   word-packed   the sums of what it finds are safe
+--   word-answer   what it finds answers what the entry does;  none-answer   so does it where it finds nothing
 -- Assumes nothing.
 use mathlib.Core.Path.{◌≡◌, refl, sym, ap, ◌∙◌, subst}
-use mathlib.Core.Logic.{◌≢◌}
-use mathlib.Core.Bool.{Bool, true, false}
+use mathlib.Core.Bool.{Bool, true, false, cond}
 use mathlib.Core.List.{List, [], ◌∷◌, map, Memᴰ}
+use Rattle.std.specs.Prelude.{Option, Some, None, Ok}
 use Prim.Native.Nat.{ℕ, ◌+◌, ◌/◌, ◌≤◌, ◌<◌}
 use native.Mathlib.Nat.{le_of_lt}
-use native.Mathlib.Numerals.{add-one}
 use native.Mathlib.Omega.{arith}
-use borrow.Author.Tests.{le-leb, lt-leb, ne_eqb}
-use lib.Dec.{leb, lit<, lit≤}
-use lib.ListN.{length, get_or, drop, drop_of_length-le}
-use lib.Seq.{drop-cons}
+use lib.Dec.{leb}
 use Rattle.params.specs.Table.{Row, table}
 use Rattle.bounds.specs.Bounds.{most_rows}
-use Rattle.params.specs.Answers.{answer-found}
-use Rattle.params.specs.Params.{pick, Entry, entry, none, first, length_of, sizes, answer}
+use Rattle.params.specs.Answers.{answer-found, answer_long}
+use Rattle.params.specs.Params.{pick, Entry, entry, none, first, length_of, sizes, bad_count, answer}
 use Rattle.params.specs.Packed.{k_unit, pack, unpack, scan, packed_answer, Packed}
 use Rattle.params.specs.Rule.{Right, right-at, table-ruled}
 use Rattle.params.specs.Smallest.{first_smallest}
-use Rattle.params.specs.declared.Parameters.TheVariants.{Found, BadCount}
-
-module _ (k : ℕ) (t : List ℕ) (i : ℕ) where
-  pub scan_hit : i < length t → k ≤ (unpack (get_or t i 0)).k → scan k (drop i t) ≡ get_or t i 0
-  unfolding scan
-  scan_hit h l = rw (drop-cons t i 0 h, le-leb k (unpack (get_or t i 0)).k l)
-
-  pub scan_miss : i < length t → (unpack (get_or t i 0)).k < k → scan k (drop i t) ≡ scan k (drop (i + 1) t)
-  unfolding scan
-  scan_miss h l = rw (drop-cons t i 0 h, add-one i, lt-leb k (unpack (get_or t i 0)).k l)
-
-  pub scan-over : length t ≤ i → scan k (drop i t) ≡ 0
-  unfolding scan
-  scan-over h = rw (drop_of_length-le t h)
 
 pub front_small : (a b c : ℕ) → a + b + c < 65_536 → a + b < 65_536
 front_small a b c h = omega arith
 
-abbrev pub word : Entry → ℕ
-word none = 0
-word (entry r) = pack r
+abbrev pub word : Entry → Option ℕ
+word none = None
+word (entry r) = Some (pack r)
 
 -- a scan of right rows, packed
 scan-packed : (k : ℕ) (t : List Row) → ((r : Row) → Memᴰ r t → Right r) → scan k (map pack t) ≡ word (first k t)
-unfolding scan first
+unfolding first
 scan-packed k [] h = refl
 scan-packed k (x ∷ xs) h =
     let e : pack x / k_unit ≡ x.k = ap (λ (r : Row). r.k) (h x (Memᴰ.head refl)).packs in
     rw (e, scan-packed k xs (λ r m. h r (Memᴰ.tail m))) (choose (leb k x.k))
   where
-    choose : (b : Bool) → pick b (pack x) (word (first k xs)) ≡ word (pick b (entry x) (first k xs))
+    choose : (b : Bool) → cond b (Some (pack x)) (word (first k xs)) ≡ word (pick b (entry x) (first k xs))
     choose true = refl
     choose false = refl
 
@@ -71,33 +52,41 @@ pack-packed r c =
       l_small = subst (λ (q : Row). length_of q < 65_536) e c.l_small;
     }
 
-pub packed_none : (x : ℕ) → x ≡ 0 → packed_answer x ≡ BadCount
-unfolding packed_answer answer
-packed_none x h = rw h
-
-pub packed-some : (x : ℕ) → x ≢ 0 → packed_answer x ≡ answer (entry (unpack x))
-unfolding packed_answer
-packed-some x h = rw (ne_eqb x 0 h)
-
 pack-answer : (r : Row) → Right r → packed_answer (pack r) ≡ answer (entry r)
-pack-answer r c =
-    let l = c.s-below-k in
-    packed-some (pack r) (λ e. omega arith) ∙ ap (λ (q : Row). answer (entry q)) c.packs
+unfolding packed_answer
+pack-answer r c = ap (λ (q : Row). answer (entry q)) c.packs
 
-pub found_packed : (x : ℕ) → x ≢ 0 → length_of (unpack x) ≤ most_rows → Found (sizes (unpack x)) ≡ packed_answer x
-found_packed x h l = sym (packed-some x h ∙ answer-found (unpack x) l)
+pub found_packed : (x : ℕ) → length_of (unpack x) ≤ most_rows → Ok (sizes (unpack x)) ≡ packed_answer x
+unfolding packed_answer
+found_packed x l = sym (answer-found (unpack x) l)
 
-pub word-packed : (k : ℕ) → Packed (word (first k table))
-word-packed k = go (first k table) refl
+pub long_packed : (x : ℕ) → most_rows < length_of (unpack x) → bad_count ≡ packed_answer x
+unfolding packed_answer
+long_packed x l = sym (answer_long (unpack x) l)
+
+-- the row that is found, packed
+pub word-packed : (k x : ℕ) → Some x ≡ word (first k table) → Packed x
+word-packed k x = go (first k table) refl
   where
-    go : (e : Entry) → first k table ≡ e → Packed (word e)
-    go none h = record { w_upto_l = lit≤ tt; l_small = lit< tt }
-    go (entry r) h = pack-packed r (right-at (first_smallest k 0 table table-ruled r h).inside)
+    go : (e : Entry) → first k table ≡ e → Some x ≡ word e → Packed x
+    go none h m = let z : ◌≡◌ {A = ℕ} 0 1 = cc in absurd (omega arith)
+    go (entry r) h m =
+        let e : pack r ≡ x = cc in
+        subst Packed e (pack-packed r (right-at (first_smallest k 0 table table-ruled r h).inside))
 
-pub word-answer : (k : ℕ) → packed_answer (word (first k table)) ≡ answer (first k table)
+pub word-answer : (k x : ℕ) → Some x ≡ word (first k table) → packed_answer x ≡ answer (first k table)
+word-answer k x = go (first k table) refl
+  where
+    go : (e : Entry) → first k table ≡ e → Some x ≡ word e → packed_answer x ≡ answer e
+    go none h m = let z : ◌≡◌ {A = ℕ} 0 1 = cc in absurd (omega arith)
+    go (entry r) h m =
+        let e : x ≡ pack r = cc in
+        ap packed_answer e ∙ pack-answer r (right-at (first_smallest k 0 table table-ruled r h).inside)
+
+pub none-answer : (k : ℕ) → None ≡ word (first k table) → bad_count ≡ answer (first k table)
 unfolding answer
-word-answer k = go (first k table) refl
+none-answer k = go (first k table)
   where
-    go : (e : Entry) → first k table ≡ e → packed_answer (word e) ≡ answer e
-    go none h = packed_none 0 refl
-    go (entry r) h = pack-answer r (right-at (first_smallest k 0 table table-ruled r h).inside)
+    go : (e : Entry) → None ≡ word e → bad_count ≡ answer e
+    go none m = refl
+    go (entry r) m = let z : ◌≡◌ {A = ℕ} 0 1 = cc in absurd (omega arith)

@@ -7,20 +7,18 @@
 --   one-outcome      two outcomes that keep it are equal
 --   Sized k z        the rule of the sizes z found for k;  sized   they keep it
 -- Assumes nothing.
-use Rattle.std.specs.Prelude.{◌≡◌, refl, ◌≢◌, ◌⊎◌, Bool, true, false, ℕ, ◌+◌, ◌≤◌, ◌<◌, leb, eqb}
+use Rattle.std.specs.Prelude.{◌≡◌, refl, ◌≢◌, ◌⊎◌, Bool, true, false, ℕ, ◌+◌, ◌≤◌, ◌<◌, leb, eqb, Ok}
 use Rattle.std.proofs.Common.{sym, ap, ◌∙◌, subst, inl, inr, ⊎_elim, ne_of_gt, eq-zero-or-pos, arith, le-leb, ne_eqb}
 use mathlib.Core.List.{Memᴰ}
 use Rattle.std.proofs.lemmas.Bool.{lt-leb}
 use Rattle.params.specs.Table.{Row, table}
 use Rattle.bounds.specs.Bounds.{most_rows}
-use Rattle.params.specs.Params.{Entry, entry, none, pick, first, length_of, sizes, answer, params_of, number, entry_refusal, refusal_of, Answered}
+use Rattle.params.specs.Params.{Parameters, Entry, entry, none, pick, first, length_of, sizes, bad_count, answer, params_of, number, entry_refusal, refusal_of, Answered}
 use Rattle.params.specs.Rule.{Right, table-ruled, right-at}
 use Rattle.params.specs.Smallest.{Smallest, within, first_smallest, smallest_first, first-none, none_first}
 use Rattle.params.specs.declared.Sizes.{Sizes}
-use Rattle.params.specs.declared.Parameters.{Parameters}
-use Rattle.params.specs.declared.Parameters.TheVariants.{Found, BadCount}
 
-pub at_zero : (k : ℕ) → k ≡ 0 → params_of k ≡ BadCount
+pub at_zero : (k : ℕ) → k ≡ 0 → params_of k ≡ bad_count
 unfolding params_of
 at_zero k h = rw h
 
@@ -28,11 +26,11 @@ pub at_some : (k : ℕ) → k ≢ 0 → params_of k ≡ answer (first k table)
 unfolding params_of
 at_some k h = rw (ne_eqb k 0 h)
 
-pub answer-found : (r : Row) → length_of r ≤ most_rows → answer (entry r) ≡ Found (sizes r)
+pub answer-found : (r : Row) → length_of r ≤ most_rows → answer (entry r) ≡ Ok (sizes r)
 unfolding answer
 answer-found r h = rw (le-leb (length_of r) most_rows h)
 
-pub answer_long : (r : Row) → most_rows < length_of r → answer (entry r) ≡ BadCount
+pub answer_long : (r : Row) → most_rows < length_of r → answer (entry r) ≡ bad_count
 unfolding answer
 answer_long r h = rw (lt-leb (length_of r) most_rows h)
 
@@ -49,15 +47,15 @@ pub data Refused (k : ℕ) : Type 0 where
   above : ((q : Row) → Memᴰ q table → q.k < k) → Refused k
   long : (r : Row) → Smallest k table r → most_rows < length_of r → Refused k
 
-pub finds : (k : ℕ) (z : Sizes) (r : Row) → Finds k z r → params_of k ≡ Found z
+pub finds : (k : ℕ) (z : Sizes) (r : Row) → Finds k z r → params_of k ≡ Ok z
 finds k z r f =
-    at_some k (ne_of_gt f.some) ∙ ap answer (smallest_first k 0 table table-ruled r f.smallest) ∙ answer-found r f.fits ∙ ap Found (sym f.is)
+    at_some k (ne_of_gt f.some) ∙ ap answer (smallest_first k 0 table table-ruled r f.smallest) ∙ answer-found r f.fits ∙ ap Ok (sym f.is)
 
 -- a k whose entry is refused is refused, 0 or not
-entry_bad : (k : ℕ) (e : Entry) → first k table ≡ e → answer e ≡ BadCount → params_of k ≡ BadCount
+entry_bad : (k : ℕ) (e : Entry) → first k table ≡ e → answer e ≡ bad_count → params_of k ≡ bad_count
 entry_bad k e d b = ⊎_elim (at_zero k) (λ p. at_some k (ne_of_gt p) ∙ ap answer d ∙ b) (eq-zero-or-pos k)
 
-pub refused : (k : ℕ) → Refused k → params_of k ≡ BadCount
+pub refused : (k : ℕ) → Refused k → params_of k ≡ bad_count
 unfolding answer
 refused k (empty e) = at_zero k e
 refused k (above h) = entry_bad k none (none_first k table h) refl
@@ -76,7 +74,7 @@ decide k = ⊎_elim (λ e. inr (empty e)) some (eq-zero-or-pos k)
             let s = first_smallest k 0 table table-ruled r e in
             ⊎_elim (λ l. inl (r, record { some = p; smallest = s; fits = l; is = refl })) (λ l. inr (long r s l)) (within (length_of r) most_rows)
 
-pub found : (k : ℕ) (z : Sizes) → params_of k ≡ Found z → (r : Row) × Finds k z r
+pub found : (k : ℕ) (z : Sizes) → params_of k ≡ Ok z → (r : Row) × Finds k z r
 found k z e =
     ⊎_elim
     (λ (f : (r : Row) × Finds k (sizes r) r).
@@ -86,7 +84,7 @@ found k z e =
     (λ (q : Refused k). let b = refused k q in absurd (let n : ◌≡◌ {A = ℕ} 0 1 = cc in omega arith))
     (decide k)
 
-pub bad : (k : ℕ) → params_of k ≡ BadCount → Refused k
+pub bad : (k : ℕ) → params_of k ≡ bad_count → Refused k
 bad k e =
     ⊎_elim
     (λ (f : (r : Row) × Finds k (sizes r) r).
@@ -95,7 +93,7 @@ bad k e =
     (λ (q : Refused k). q)
     (decide k)
 
-pick-number : (b : Bool) (z : Sizes) → number (pick b (Found z) BadCount) ≡ pick b 0 1
+pick-number : (b : Bool) (z : Sizes) → number (pick b (Ok z) bad_count) ≡ pick b 0 1
 pick-number true z = refl
 pick-number false z = refl
 
@@ -108,7 +106,7 @@ pub number_of : (k : ℕ) → number (params_of k) ≡ refusal_of k
 unfolding params_of refusal_of
 number_of k = go (eqb k 0)
   where
-    go : (b : Bool) → number (pick b BadCount (answer (first k table))) ≡ pick b 1 (entry_refusal (first k table))
+    go : (b : Bool) → number (pick b bad_count (answer (first k table))) ≡ pick b 1 (entry_refusal (first k table))
     go true = refl
     go false = entry-number (first k table)
 
@@ -170,7 +168,7 @@ sized_row k r some reaches most c =
       shh_upto_l = omega arith;
     }
 
-pub sized : (k : ℕ) (z : Sizes) → params_of k ≡ Found z → Sized k z
+pub sized : (k : ℕ) (z : Sizes) → params_of k ≡ Ok z → Sized k z
 sized k z e =
     let f = found k z e in
     let s = f.1.smallest in

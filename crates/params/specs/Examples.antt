@@ -4,23 +4,22 @@
 --   too_long      218 is refused, its L being above the bound
 --   above-table   56,404 is refused, being above each row of the table
 -- Assumes nothing.
-use Rattle.std.specs.Prelude.{◌≡◌, refl}
+use Rattle.std.specs.Prelude.{◌≡◌, refl, Ok}
 use Rattle.params.specs.Table.{table}
-use Rattle.params.specs.Params.{first, answer, params_of}
-use Rattle.params.specs.declared.Parameters.TheVariants.{Found, BadCount}
+use Rattle.params.specs.Params.{first, answer, bad_count, params_of}
 
-pub ten : params_of 10 ≡ Found (record { k = 10; j = 254; s = 7; h = 10; w = 17; l = 27; p = 10 })
+pub ten : params_of 10 ≡ Ok (record { k = 10; j = 254; s = 7; h = 10; w = 17; l = 27; p = 10 })
 unfolding params_of first answer table
 ten = refl
 
-pub last : params_of 217 ≡ Found (record { k = 217; j = 764; s = 29; h = 10; w = 233; l = 256; p = 23 })
+pub last : params_of 217 ≡ Ok (record { k = 217; j = 764; s = 29; h = 10; w = 233; l = 256; p = 23 })
 unfolding params_of first answer table
 last = refl
 
-pub too_long : params_of 218 ≡ BadCount
+pub too_long : params_of 218 ≡ bad_count
 unfolding params_of first answer table
 too_long = refl
 
-pub above-table : params_of 56_404 ≡ BadCount
+pub above-table : params_of 56_404 ≡ bad_count
 unfolding params_of first answer table
 above-table = refl

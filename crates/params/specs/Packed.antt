@@ -5,10 +5,9 @@
 --   packed_answer x     what a packed row answers
 --   Packed x           the sums of a packed row are safe
 -- Assumes nothing.
-use Rattle.std.specs.Prelude.{List, [], ◌∷◌, ℕ, ◌+◌, ◌*◌, ◌/◌, ◌%◌, ◌≤◌, ◌<◌, leb, eqb}
+use Rattle.std.specs.Prelude.{List, ℕ, ◌+◌, ◌*◌, ◌/◌, ◌%◌, ◌≤◌, ◌<◌, leb, Option, find}
 use Rattle.params.specs.Table.{Row, row}
-use Rattle.params.specs.Params.{pick, entry, none, length_of, answer}
-use Rattle.params.specs.declared.Parameters.{Parameters}
+use Rattle.params.specs.Params.{Parameters, entry, length_of, answer}
 
 abbrev pub k_unit : ℕ
 k_unit = 100_000_000_000_000
@@ -28,14 +27,13 @@ pack r = r.k * k_unit + r.j * j_unit + r.s * s_unit + r.h * h_unit + r.w
 abbrev pub unpack : ℕ → Row
 unpack x = row (x / k_unit) (x % k_unit / j_unit) (x % j_unit / s_unit) (x % s_unit / h_unit) (x % h_unit)
 
--- the first packed row whose K' is not below k; 0 where there is none
-unfoldable pub scan : ℕ → List ℕ → ℕ
-scan k [] = 0
-scan k (x ∷ xs) = pick (leb k (unpack x).k) x (scan k xs)
+-- the first packed row whose K' is not below k
+abbrev pub scan : ℕ → List ℕ → Option ℕ
+scan k t = find (λ x. leb k (unpack x).k) t
 
--- what the row answers; 0 is no row
+-- what the row answers
 unfoldable pub packed_answer : ℕ → Parameters
-packed_answer x = answer (pick (eqb x 0) none (entry (unpack x)))
+packed_answer x = answer (entry (unpack x))
 
 -- L - W does not fall below 0, and no sum is large
 pub record Packed (x : ℕ) : Type 0 where

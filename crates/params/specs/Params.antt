@@ -2,17 +2,17 @@
 --   Entry, pick  a row, or none; one of two, by a test
 --   first k t    the row of t for k, an Entry
 --   length_of r   L of a row;  sizes r   all its figures
+--   Parameters   sizes, or that there are none;  bad_count   that there are none
 --   answer e     what an entry answers;  params_of k   what k is answered
 --   number a     the number of an answer;  refusal_of k   the number that k is answered with
 --   entry_refusal e   the number that an entry is answered with
 --   Answered     the promise of `params`
 -- Assumes nothing.
-use Rattle.std.specs.Prelude.{◌≡◌, Bool, true, false, List, [], ◌∷◌, ℕ, ◌+◌, ◌-◌, leb, eqb}
+use Rattle.std.specs.Prelude.{◌≡◌, Bool, true, false, List, [], ◌∷◌, ℕ, ◌+◌, ◌-◌, leb, eqb, Result, Ok, Err}
 use Rattle.bounds.specs.Bounds.{most_rows}
 use Rattle.params.specs.Table.{Row, table}
 use Rattle.params.specs.declared.Sizes.{Sizes}
-use Rattle.params.specs.declared.Parameters.{Parameters}
-use Rattle.params.specs.declared.Parameters.TheVariants.{Found, BadCount}
+use Rattle.params.specs.declared.BadCount.{BadCount}
 
 -- a row, or none
 pub data Entry : Type 0 where
@@ -36,19 +36,26 @@ length_of r = r.k + r.s + r.h
 abbrev pub sizes : Row → Sizes
 sizes r = record { k = r.k; j = r.j; s = r.s; h = r.h; w = r.w; l = length_of r; p = length_of r - r.w }
 
+-- sizes, or that there are none
+abbrev pub Parameters : Type 0
+Parameters = Result Sizes BadCount
+
+abbrev pub bad_count : Parameters
+bad_count = Err (record {})
+
 -- the sizes of a row whose L is within the bound
 unfoldable pub answer : Entry → Parameters
-answer none = BadCount
-answer (entry r) = pick (leb (length_of r) most_rows) (Found (sizes r)) BadCount
+answer none = bad_count
+answer (entry r) = pick (leb (length_of r) most_rows) (Ok (sizes r)) bad_count
 
 -- 0 symbols are no source block
 unfoldable pub params_of : ℕ → Parameters
-params_of k = pick (eqb k 0) BadCount (answer (first k table))
+params_of k = pick (eqb k 0) bad_count (answer (first k table))
 
 -- 0: found; 1: a bad count
 abbrev pub number : Parameters → ℕ
-number (Found z) = 0
-number BadCount = 1
+number (Ok z) = 0
+number (Err e) = 1
 
 -- 1 where there is no row, or its L exceeds the bound
 unfoldable pub entry_refusal : Entry → ℕ

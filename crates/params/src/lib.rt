@@ -497,7 +497,7 @@ const H_UNIT: u64 = 100_000;
 
 // The sizes of a source block: K', the systematic index J, S LDPC and H HDPC symbols, W LT symbols,
 // L intermediate symbols and P of them permanently inactive (RFC 6330, 5.3.3.3).
-#[derive(Clone, Copy)]
+#[derive(Debug, Clone, Copy, PartialEq, Eq)]
 pub struct Sizes {
     pub k: usize,
     pub j: usize,
@@ -508,37 +508,24 @@ pub struct Sizes {
     pub p: usize,
 }
 
-// The sizes of a source block, or that there are none within the bound.
-#[derive(Clone, Copy)]
-pub enum Parameters {
-    Found(Sizes),
-    BadCount,
-}
+// The refusal of a number of source symbols: there are no sizes within the bound for it.
+#[derive(Debug, Clone, Copy, PartialEq, Eq)]
+pub struct BadCount;
 
-// The first row of a packed table whose K' is not below k; 0 where there is none.
-fn find(table: &[u64], k: usize) -> u64
+// The first row of a packed table whose K' is not below k.
+fn find(table: &[u64], k: usize) -> Option<u64>
     ensures { result ≡ scan k table.now }
 {
-    let mut i = 0;
-    while i < table.len() {
-        let row = table[i];
-        if k as u64 <= row / K_UNIT {
-            return row;
-        }
-        i += 1;
-    }
-    0
+    table.iter().copied().find(|row| k as u64 <= *row / K_UNIT)
 }
 
-// The sizes that a packed row gives; BadCount where there is no row, or L exceeds the bound.
-#[tactic(auto, using(crate::proofs::Packing::found_packed))]
-fn answer(row: u64) -> Parameters
+// The sizes that a packed row gives; BadCount where L exceeds the bound.
+#[tactic(auto, using(crate::proofs::Packing::found_packed, crate::proofs::Packing::long_packed))]
+fn answer(row: u64) -> Result<Sizes, BadCount>
     requires { Packed row }
     ensures { result ≡ packed_answer row }
 {
-    if row == 0 {
-        return Parameters::BadCount;
-    }
+    // Every figure is small; `usize` has no `From<u64>`.
     let k = (row / K_UNIT) as usize;
     let j = (row % K_UNIT / J_UNIT) as usize;
     let s = (row % J_UNIT / S_UNIT) as usize;
@@ -546,26 +533,31 @@ fn answer(row: u64) -> Parameters
     let w = (row % H_UNIT) as usize;
     let l = k + s + h;
     if l <= bounds::MOST_ROWS {
-        return Parameters::Found(Sizes {
+        let p = l - w;
+        Ok(Sizes {
             k,
             j,
             s,
             h,
             w,
             l,
-            p: l - w,
-        });
+            p,
+        })
+    } else {
+        Err(BadCount)
     }
-    Parameters::BadCount
 }
 
 // The sizes of a source block of k symbols, by the smallest K' that is not below k; BadCount where k is 0, where no K'
 // is that large, or where L exceeds the bound.
-pub fn params(k: usize) -> Parameters
+pub fn params(k: usize) -> Result<Sizes, BadCount>
     ensures { Answered k result }
 {
     if k == 0 {
-        return Parameters::BadCount;
+        return Err(BadCount);
     }
-    answer(find(&TABLE, k))
+    match find(&TABLE, k) {
+        Some(row) => answer(row),
+        None => Err(BadCount),
+    }
 }

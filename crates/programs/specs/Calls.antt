@@ -1,27 +1,20 @@
 -- What the programs call: the solver, over a case whose inputs are at the front of buffers, and over working rooms that are zeros.
---   at_most       the lesser of two numbers
---   given        what a case says of its octet rows
+--   given        the octet rows of a case, or none
 --   rooms        working rooms for any system within the bounds
 --   Calls        a call over these rooms gave this answer and left these buffers; in the rooms, whatever it leaves
 --   Solves       the same of a case: it gets the front of its buffers, and the slab keeps what lies behind
 --   calls_one, solves_one    two outcomes are equal
---   at_most_less, at_most_more   the lesser of two, where the first is less, and where it is not
 --   calls_is     a call, by what was said of its octet rows;  solves_is   a case, by how much was taken of its buffers
 -- Assumes nothing.
-use Rattle.std.specs.Prelude.{◌≡◌, Bool, true, false, cond, List, ◌++◌, ℕ, ◌-◌, ◌≤◌, ◌<◌, ltb, length, replicate, take, drop}
-use Rattle.std.proofs.Common.{sym, ap, subst, ◌∙◌, arith, lt-ltb, le-ltb}
-use Rattle.answers.specs.declared.Answer.{Answer}
-use Rattle.call.specs.declared.OctetRows.{OctetRows}
-use Rattle.call.specs.declared.OctetRows.TheVariants.{Given, Absent}
+use Rattle.std.specs.Prelude.{◌≡◌, Bool, true, false, List, ◌++◌, ℕ, length, min, replicate, take, drop, Option, Some, None}
+use Rattle.std.proofs.Common.{sym, ap, ◌∙◌}
+use Rattle.answers.specs.Answers.{Answer}
 use Rattle.call.specs.Call.{Octets, Working, Outcome, rows_of, working, buffers, outcome, call_of}
 use Rattle.systems.specs.declared.told.System.{System}
 
-abbrev pub at_most : ℕ → ℕ → ℕ
-at_most n most = cond (ltb n most) n most
-
-abbrev pub given : Bool → OctetRows
-given true = Given
-given false = Absent
+abbrev pub given : Bool → List ℕ → Option (List ℕ)
+given true octets = Some octets
+given false octets = None
 
 abbrev pub rooms : Working
 rooms =
@@ -34,9 +27,9 @@ pub record Calls (k m t : ℕ) (bits : List ℕ) (o : Octets) (slab list order v
 
 pub record Solves (s : System) (bits octets slab list order vector : List ℕ) (r : Answer) (slab' list' order' vector' : List ℕ) : Type 0 where
   pub front : List ℕ
-  pub called : Calls s.k s.m s.t (take (at_most s.bits (length bits)) bits) (rows_of (given s.octet) (take (at_most s.octets (length octets)) octets))
-      (take (at_most s.slab (length slab)) slab) list order vector r front list' order' vector'
-  pub behind : slab' ≡ front ++ drop (at_most s.slab (length slab)) slab
+  pub called : Calls s.k s.m s.t (take (min s.bits (length bits)) bits) (rows_of (given s.octet (take (min s.octets (length octets)) octets)))
+      (take (min s.slab (length slab)) slab) list order vector r front list' order' vector'
+  pub behind : slab' ≡ front ++ drop (min s.slab (length slab)) slab
 
 pub calls_one : {k m t : ℕ} {bits : List ℕ} {o : Octets} {slab list order vector slab' list' order' vector' slab'' list'' order'' vector'' : List ℕ} {r r' : Answer}
     → Calls k m t bits o slab list order vector r slab' list' order' vector' → Calls k m t bits o slab list order vector r' slab'' list'' order'' vector''
@@ -55,35 +48,23 @@ pub solves_one : {s : System} {bits octets slab list order vector slab' list' or
     → (r ≡ r') × (slab' ≡ slab'') × (list' ≡ list'') × (order' ≡ order'') × (vector' ≡ vector'')
 solves_one {s} {slab = slab} x y =
     let e = calls_one x.called y.called in
-    (e.0, x.behind ∙ ap (λ (f : List ℕ). f ++ drop (at_most s.slab (length slab)) slab) e.1 ∙ sym y.behind, e.2, e.3, e.4)
-
--- where the first is less, and where it is not
-pub at_most_less : (n most : ℕ) → n < most → (n ≤ most) × (n ≡ at_most n most)
-at_most_less n most h = (omega arith, rw (lt-ltb n most h))
-
-pub at_most_more : (n most : ℕ) → most ≤ n → (most ≤ most) × (most ≡ at_most n most)
-at_most_more n most h = (omega arith, rw (le-ltb n most h))
+    (e.0, x.behind ∙ ap (λ (f : List ℕ). f ++ drop (min s.slab (length slab)) slab) e.1 ∙ sym y.behind, e.2, e.3, e.4)
 
 -- a call, by what was said of its octet rows
-pub calls_is : (octets : List ℕ) (b : Bool) {k m t : ℕ} {bits slab list order vector slab' list' order' vector' : List ℕ} {r : Answer} {which : OctetRows} {w : Working} → which ≡ given b
-    → outcome r (buffers slab' list' order' vector' w) ≡ call_of k m t bits (rows_of which octets) (buffers slab list order vector rooms)
-    → Calls k m t bits (rows_of (given b) octets) slab list order vector r slab' list' order' vector'
+pub calls_is : (octets : List ℕ) (b : Bool) {k m t : ℕ} {bits slab list order vector slab' list' order' vector' : List ℕ} {r : Answer} {which : Option (List ℕ)} {w : Working} → which ≡ given b octets
+    → outcome r (buffers slab' list' order' vector' w) ≡ call_of k m t bits (rows_of which) (buffers slab list order vector rooms)
+    → Calls k m t bits (rows_of (given b octets)) slab list order vector r slab' list' order' vector'
 calls_is octets b {k} {m} {t} {bits} {slab} {list} {order} {vector} {w = w} e h =
-    record { left = w; is = h ∙ ap (λ (x : OctetRows). call_of k m t bits (rows_of x octets) (buffers slab list order vector rooms)) e }
+    record { left = w; is = h ∙ ap (λ (x : Option (List ℕ)). call_of k m t bits (rows_of x) (buffers slab list order vector rooms)) e }
 
 -- a case, by the numbers that were taken of its buffers
 pub solves_is : {s : System} {bits octets slab list order vector front list' order' vector' : List ℕ} {r : Answer} {b o n : ℕ}
-    → b ≡ at_most s.bits (length bits) → o ≡ at_most s.octets (length octets) → n ≡ at_most s.slab (length slab)
-    → Calls s.k s.m s.t (take (b - 0) bits) (rows_of (given s.octet) (take (o - 0) octets)) (take (n - 0) slab) list order vector r front list' order' vector'
-    → Solves s bits octets slab list order vector r (front ++ drop (n - 0) slab) list' order' vector'
-solves_is {s} {bits} {octets} {slab} {list} {order} {vector} {front} {list'} {order'} {vector'} {r} {b} {o} {n} p q v c =
-    let p' : b - 0 ≡ at_most s.bits (length bits) = omega (arith, p) in
-    let q' : o - 0 ≡ at_most s.octets (length octets) = omega (arith, q) in
-    let v' : n - 0 ≡ at_most s.slab (length slab) = omega (arith, v) in
+    → b ≡ min s.bits (length bits) → o ≡ min s.octets (length octets) → n ≡ min s.slab (length slab)
+    → Calls s.k s.m s.t (take b bits) (rows_of (given s.octet (take o octets))) (take n slab) list order vector r front list' order' vector'
+    → Solves s bits octets slab list order vector r (front ++ drop n slab) list' order' vector'
+solves_is {s} {bits} {octets} {slab} {list} {order} {vector} {front} {list'} {order'} {vector'} {r} p q v c =
     record {
       front = front;
-      called = subst (λ (k : ℕ). Calls s.k s.m s.t (take k bits) (rows_of (given s.octet) (take (at_most s.octets (length octets)) octets)) (take (at_most s.slab (length slab)) slab) list order vector r front list' order' vector') p'
-          (subst (λ (k : ℕ). Calls s.k s.m s.t (take (b - 0) bits) (rows_of (given s.octet) (take k octets)) (take (at_most s.slab (length slab)) slab) list order vector r front list' order' vector') q'
-          (subst (λ (k : ℕ). Calls s.k s.m s.t (take (b - 0) bits) (rows_of (given s.octet) (take (o - 0) octets)) (take k slab) list order vector r front list' order' vector') v' c));
-      behind = ap (λ (k : ℕ). front ++ drop k slab) v';
+      called = rw (← p, ← q, ← v) c;
+      behind = ap (λ (k : ℕ). front ++ drop k slab) v;
     }

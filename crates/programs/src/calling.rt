@@ -1,20 +1,16 @@
 // The call over working rooms for any system within the bounds.
-ghost use Rattle.std.specs.Prelude.{◌≡◌};
+ghost use Rattle.std.specs.Prelude.{◌≡◌, option_map};
 ghost use Rattle.call.specs.Call.{rows_of};
 ghost use Rattle.programs.specs.Calls.{given as rowsGiven, Calls, Solves};
 
-use crate::writing::at_most;
-use solver::{Answer, OctetRows};
+use solver::{Answer, Workspace};
 use systems::System;
 
-// What a case says of its octet rows.
-pub fn octet_rows(given: bool) -> OctetRows
-    ensures { result ≡ rowsGiven given }
+// The octet rows of a case, or none.
+pub fn octet_rows(given: bool, octets: &[u8]) -> Option<&[u8]>
+    ensures { option_map (λ x. x.now) result ≡ rowsGiven given octets.now }
 {
-    if given {
-        return OctetRows::Given;
-    }
-    OctetRows::Absent
+    given.then_some(octets)
 }
 
 // The call, over working rooms of its own.
@@ -27,7 +23,7 @@ fn call(
     order: &mut [usize],
     vector: &mut [u8],
 ) -> Answer
-    ensures { Calls s.k s.m s.t bits.now (rows_of (rowsGiven s.octet) octets.now) slab.old list.old order.old vector.old result slab.new list.new order.new vector.new }
+    ensures { Calls s.k s.m s.t bits.now (rows_of (rowsGiven s.octet octets.now)) slab.old list.old order.old vector.old result slab.new list.new order.new vector.new }
 {
     let mut work = [0u8; crate::WORK_ROOM];
     let mut scratch = [0u8; crate::LINE_ROOM];
@@ -38,26 +34,28 @@ fn call(
     let mut singles = [0usize; crate::LINE_ROOM];
     let mut labels = [0usize; crate::LINE_ROOM];
     let mut sizes = [0usize; crate::SIZES_ROOM];
+    let mut w = Workspace {
+        work: &mut work,
+        scratch: &mut scratch,
+        columns: &mut columns,
+        rows: &mut rows,
+        ones: &mut ones,
+        degrees: &mut degrees,
+        singles: &mut singles,
+        labels: &mut labels,
+        sizes: &mut sizes,
+    };
     solver::solve(
         s.k,
         s.m,
         s.t,
         bits,
-        octet_rows(s.octet),
-        octets,
+        octet_rows(s.octet, octets),
         slab,
         list,
         order,
         vector,
-        &mut work,
-        &mut scratch,
-        &mut columns,
-        &mut rows,
-        &mut ones,
-        &mut degrees,
-        &mut singles,
-        &mut labels,
-        &mut sizes,
+        &mut w,
     )
 }
 
@@ -73,14 +71,14 @@ pub fn solve_case(
 ) -> Answer
     ensures { Solves s bits.now octets.now slab.old list.old order.old vector.old result slab.new list.new order.new vector.new }
 {
-    let b = at_most(s.bits, bits.len());
-    let o = at_most(s.octets, octets.len());
-    let n = at_most(s.slab, slab.len());
+    let b = s.bits.min(bits.len());
+    let o = s.octets.min(octets.len());
+    let n = s.slab.min(slab.len());
     call(
         s,
-        &bits[0..b],
-        &octets[0..o],
-        &mut slab[0..n],
+        &bits[..b],
+        &octets[..o],
+        &mut slab[..n],
         list,
         order,
         vector,

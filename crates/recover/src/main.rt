@@ -3,8 +3,8 @@
 
 ghost use Rattle.std.specs.Prelude.{◌≤◌};
 
-use programs::{at_most, put, put_count, put_part, read_full};
-use solver::{Answer, Counts, Display, Report};
+use programs::{put_part, read_full};
+use solver::{Answer, Counts, Display, Refusal, Report};
 use std::io;
 use std::io::Write;
 use systems::{Read, System};
@@ -17,63 +17,54 @@ const SLAB_ROOM: usize = 524288;
 
 // The answer's number and name.
 fn put_answer<W: Write>(out: &mut W, a: Answer) -> io::Result<()> {
-    put_count(out, b"answer ", solver::number(a))?;
+    let number = solver::number(a);
     match a {
-        Answer::Solved(_) => put(out, b" Solved\n"),
-        Answer::BadCount => put(out, b" BadCount\n"),
-        Answer::BadShape => put(out, b" BadShape\n"),
-        Answer::BadEntry => put(out, b" BadEntry\n"),
-        Answer::NoRoom => put(out, b" NoRoom\n"),
-        Answer::ListFull => put(out, b" ListFull\n"),
-        Answer::NoPivot => put(out, b" NoPivot\n"),
-        Answer::Singular => put(out, b" Singular\n"),
+        Ok(_) => writeln!(out, "answer {number} Solved"),
+        Err(refusal) => writeln!(out, "answer {number} {refusal:?}"),
     }
 }
 
 // What the receiver shows, where that is not the answer's name.
 fn put_shown<W: Write>(out: &mut W, a: Answer) -> io::Result<()> {
-    match solver::shown(a) {
-        Display::ShortOfRank => put(out, b"shown short of rank\n"),
-        _ => Ok(()),
+    if solver::shown(a) == Display::ShortOfRank {
+        writeln!(out, "shown short of rank")?;
     }
+    Ok(())
 }
 
 // The sizes; a K without an entry in the table has no columns.
 fn put_sizes<W: Write>(out: &mut W, s: System) -> io::Result<()> {
-    put_count(out, b"rows ", s.m)?;
+    write!(out, "rows {}", s.m)?;
     if 0 < s.l {
-        put_count(out, b" columns ", s.l)?;
+        write!(out, " columns {}", s.l)?;
     }
-    put_count(out, b" bytes ", s.t)?;
-    put(out, b"\n")
+    writeln!(out, " bytes {}", s.t)
 }
 
 // The counts of a phase.
-fn put_phase<W: Write>(out: &mut W, name: &[u8], c: Counts) -> io::Result<()> {
-    put(out, b"phase ")?;
-    put_count(out, name, c.adds)?;
-    put_count(out, b" additions ", c.muls)?;
-    put(out, b" multiplications\n")
+fn put_phase<W: Write>(out: &mut W, name: &str, c: Counts) -> io::Result<()> {
+    writeln!(
+        out,
+        "phase {name} {} additions {} multiplications",
+        c.adds, c.muls
+    )
 }
 
 // How many operations there are, and the counts of each phase.
 fn put_report<W: Write>(out: &mut W, r: Report) -> io::Result<()> {
-    put_count(out, b"operations ", r.operations)?;
-    put(out, b"\n")?;
-    put_phase(out, b"one ", r.one)?;
-    put_phase(out, b"two ", r.two)?;
-    put_phase(out, b"three ", r.three)?;
-    put_phase(out, b"four ", r.four)?;
-    put_phase(out, b"five ", r.five)
+    writeln!(out, "operations {}", r.operations)?;
+    put_phase(out, "one", r.one)?;
+    put_phase(out, "two", r.two)?;
+    put_phase(out, "three", r.three)?;
+    put_phase(out, "four", r.four)?;
+    put_phase(out, "five", r.five)
 }
 
 // Where a slab row of t bytes begins.
 fn row_start(row: usize, t: usize) -> usize
     ensures { result ≤ 16776960 }
 {
-    let r = at_most(row, bounds::MOST_ROWS);
-    let b = at_most(t, bounds::MOST_BYTES);
-    r * b
+    row.min(bounds::MOST_ROWS) * t.min(bounds::MOST_BYTES)
 }
 
 // Symbol j, which is a slab row of t bytes.
@@ -85,19 +76,15 @@ fn put_symbol<W: Write>(
     slab: &[u8],
 ) -> io::Result<()> {
     let from = row_start(row, t);
-    let end = from + at_most(t, bounds::MOST_BYTES);
-    put_count(out, b"symbol ", j)?;
-    put(out, b" ")?;
-    put_part(out, slab, from, end)?;
-    put(out, b"\n")
+    write!(out, "symbol {j} ")?;
+    put_part(out, slab, from, from + t.min(bounds::MOST_BYTES))?;
+    writeln!(out)
 }
 
 // Symbol j for each entry j of the order.
 fn put_symbols<W: Write>(out: &mut W, order: &[usize], t: usize, slab: &[u8]) -> io::Result<()> {
-    let mut j = 0;
-    while j < order.len() {
-        put_symbol(out, j, order[j], t, slab)?;
-        j += 1;
+    for (j, row) in order.iter().enumerate() {
+        put_symbol(out, j, *row, t, slab)?;
     }
     Ok(())
 }
@@ -111,15 +98,14 @@ fn put_solved<W: Write>(
     slab: &[u8],
 ) -> io::Result<()> {
     put_report(out, r)?;
-    let l = at_most(s.l, order.len());
-    put_symbols(out, &order[0..l], s.t, slab)
+    put_symbols(out, &order[..s.l.min(order.len())], s.t, slab)
 }
 
 // The first l octets of a vector.
 fn put_vector<W: Write>(out: &mut W, vector: &[u8], l: usize) -> io::Result<()> {
-    put(out, b"vector ")?;
+    write!(out, "vector ")?;
     put_part(out, vector, 0, l)?;
-    put(out, b"\n")
+    writeln!(out)
 }
 
 // What an answer means to the one who waits for the symbols.
@@ -132,32 +118,35 @@ fn put_meaning<W: Write>(
     slab: &[u8],
 ) -> io::Result<()> {
     match a {
-        Answer::Solved(r) => put_solved(out, s, r, order, slab),
-        Answer::BadCount => put(
+        Ok(r) => put_solved(out, s, r, order, slab),
+        Err(Refusal::BadCount) => writeln!(
             out,
-            b"K is zero, has no entry in the table of RFC 6330, or needs more than 256 columns.\n",
+            "K is zero, has no entry in the table of RFC 6330, or needs more than 256 columns."
         ),
-        Answer::BadShape => put(
+        Err(Refusal::BadShape) => writeln!(
             out,
-            b"The number of rows, the bytes of a symbol or the length of an input does not fit the bounds or each other.\n",
+            "The number of rows, the bytes of a symbol or the length of an input does not fit the bounds or each other."
         ),
-        Answer::BadEntry => put(out, b"An entry of the binary matrix is neither 0 nor 1.\n"),
-        Answer::NoRoom => put(
+        Err(Refusal::BadEntry) => writeln!(
             out,
-            b"A room lent to the solver is shorter than it has to be; nothing was changed.\n",
+            "An entry of the binary matrix is neither 0 nor 1."
         ),
-        Answer::ListFull => put(
+        Err(Refusal::NoRoom) => writeln!(
             out,
-            b"The operations did not fit the list's room; no symbol was changed.\n",
+            "A room lent to the solver is shorter than it has to be; nothing was changed."
         ),
-        Answer::NoPivot => put(
+        Err(Refusal::ListFull) => writeln!(
             out,
-            b"No binary row offers another pivot in phase one; no symbol was changed.\n",
+            "The operations did not fit the list's room; no symbol was changed."
         ),
-        Answer::Singular => {
-            put(
+        Err(Refusal::NoPivot) => writeln!(
+            out,
+            "No binary row offers another pivot in phase one; no symbol was changed."
+        ),
+        Err(Refusal::Singular) => {
+            writeln!(
                 out,
-                b"A vector that is not zero is sent to zero by every row, so that the symbols are not determined; none was changed.\n",
+                "A vector that is not zero is sent to zero by every row, so that the symbols are not determined; none was changed."
             )?;
             put_vector(out, vector, s.l)
         }
@@ -176,11 +165,11 @@ fn solve_case<W: Write>(
     let mut order = [0usize; programs::LINE_ROOM];
     let mut vector = [0u8; programs::LINE_ROOM];
     let a = programs::solve_case(s, bits, octets, slab, &mut list, &mut order, &mut vector);
-    let n = at_most(s.slab, slab.len());
+    let n = s.slab.min(slab.len());
     put_answer(out, a)?;
     put_sizes(out, s)?;
     put_shown(out, a)?;
-    put_meaning(out, s, a, &order, &vector, &slab[0..n])
+    put_meaning(out, s, a, &order, &vector, &slab[..n])
 }
 
 // The first case, read into the buffers.
@@ -194,13 +183,13 @@ fn first<W: Write>(
     match systems::read(text, 0, bits, octets, slab) {
         Read::Case(s, p) => {
             programs::put_name(out, text, p)?;
-            solve_case(out, s, &bits[..], &octets[..], slab)
+            solve_case(out, s, bits, octets, slab)
         }
         Read::Malformed(p) => {
             programs::put_name(out, text, p)?;
             programs::put_refused(out, text, p, systems::line_number(text, p.next))
         }
-        Read::End => put(out, b"refused: no case in the input\n"),
+        Read::End => writeln!(out, "refused: no case in the input"),
     }
 }
 
@@ -218,10 +207,7 @@ fn main(rt: HostRuntime) -> io::Result<()> {
     let n = read_full(&mut rt.stdin(), &mut input)?;
     let mut out = io::writer(&rt);
     if MOST_TEXT < n {
-        return put(
-            &mut out,
-            b"refused: the input is longer than 1048576 bytes\n",
-        );
+        return writeln!(out, "refused: the input is longer than {MOST_TEXT} bytes");
     }
     block(&mut out, &input[..n])
 }

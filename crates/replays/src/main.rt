@@ -7,11 +7,9 @@
 
 mod text;
 
-ghost use Rattle.std.specs.Prelude.{◌≤◌, length, IfOk};
-
 use std::io;
-use std::io::{Read, Write};
-use symbol_slab::Answer;
+use std::io::Write;
+use symbol_slab::{Place, Refusal};
 
 // What a case starts with.
 #[derive(Clone, Copy)]
@@ -38,25 +36,18 @@ fn read_head(input: &[u8], at: usize) -> Head {
 }
 
 // An answer's number, how symbols are then read, and whether the slab is as it has to be.
-fn say<W: Write>(out: &mut W, answer: Answer, same: bool) -> io::Result<()> {
+fn say<W: Write>(out: &mut W, answer: Result<Place, Refusal>, same: bool) -> io::Result<()> {
     match answer {
-        Answer::ByOrder => out.write_all(b" 0 by order"),
-        Answer::InPlace => out.write_all(b" 0 in place"),
-        Answer::BadShape => out.write_all(b" 2"),
-        Answer::BadList => out.write_all(b" 8"),
-        Answer::NotUndoable => out.write_all(b" 9"),
+        Ok(Place::ByOrder) => out.write_all(b" 0 by order"),
+        Ok(Place::InPlace) => out.write_all(b" 0 in place"),
+        Err(Refusal::BadShape) => out.write_all(b" 2"),
+        Err(Refusal::BadList) => out.write_all(b" 8"),
+        Err(Refusal::NotUndoable) => out.write_all(b" 9"),
     }?;
     if same {
         out.write_all(b" same")
     } else {
         out.write_all(b" other")
-    }
-}
-
-fn is_not_undoable(answer: Answer) -> bool {
-    match answer {
-        Answer::NotUndoable => true,
-        _ => false,
     }
 }
 
@@ -67,14 +58,12 @@ fn same_bytes(input: &[u8], at: usize, bytes: &[u8]) -> bool {
         return false;
     }
     let mut next = first.next;
-    let mut i = 0;
-    while i < bytes.len() {
-        let w = text::read(input, next);
-        if text::narrow(w.value) != bytes[i] {
+    for byte in bytes {
+        let b = text::byte(input, next);
+        if b.value != *byte {
             return false;
         }
-        next = w.next;
-        i += 1;
+        next = b.next;
     }
     true
 }
@@ -87,19 +76,20 @@ fn compare<W: Write>(
     before: usize,
     after: usize,
     list: &[u64],
-    order: &[usize],
+    order: Option<&[usize]>,
     bytes: &mut [u8],
 ) -> io::Result<()> {
     out.write_all(b"replay")?;
-    let r = symbol_slab::replay(h.m, h.l, h.t, list, h.ordered, order, bytes);
+    let r = symbol_slab::replay(h.m, h.l, h.t, list, order, bytes);
     say(out, r, same_bytes(input, after, &bytes[..]))?;
     out.write_all(b" undo")?;
-    let u = symbol_slab::undo(h.m, h.l, h.t, list, h.ordered, order, bytes);
-    if is_not_undoable(u) {
-        say(out, u, same_bytes(input, after, &bytes[..]))?;
+    let u = symbol_slab::undo(h.m, h.l, h.t, list, order, bytes);
+    let wanted = if u == Err(Refusal::NotUndoable) {
+        after
     } else {
-        say(out, u, same_bytes(input, before, &bytes[..]))?;
-    }
+        before
+    };
+    say(out, u, same_bytes(input, wanted, &bytes[..]))?;
     out.write_all(b"\n")
 }
 
@@ -113,9 +103,9 @@ fn one<W: Write>(
     bytes: &mut [u8],
 ) -> io::Result<usize> {
     let h = read_head(input, at);
-    let ops = text::fill_list(input, h.next, list);
-    let rows = text::fill_rows(input, ops.next, order);
-    let row = text::fill_bytes(input, rows.next, bytes);
+    let ops = text::fill(input, h.next, list, text::word);
+    let rows = text::fill(input, ops.next, order, text::row);
+    let row = text::fill(input, rows.next, bytes, text::byte);
     let n = ops.count;
     let o = rows.count;
     let s = row.count;
@@ -125,11 +115,11 @@ fn one<W: Write>(
         input,
         rows.next,
         row.next,
-        &list[0..n],
-        &order[0..o],
-        &mut bytes[0..s],
+        &list[..n],
+        h.ordered.then_some(&order[..o]),
+        &mut bytes[..s],
     )?;
-    let end = text::fill_bytes(input, row.next, bytes);
+    let end = text::fill(input, row.next, bytes, text::byte);
     Ok(end.next)
 }
 
@@ -149,23 +139,8 @@ fn all<W: Write>(out: &mut W, input: &[u8]) -> io::Result<()> {
     Ok(())
 }
 
-// Reads until the buffer is full or the input ends, and returns how many bytes it put at the front.
-fn read_full<R: Read>(input: &mut R, buffer: &mut [u8]) -> io::Result<usize>
-    ensures { IfOk result (λ n. n ≤ length buffer.new) }
-{
-    let mut done = 0;
-    while done < buffer.len() {
-        let got = input.read(&mut buffer[done..])?;
-        if got == 0 {
-            break;
-        }
-        done += got;
-    }
-    Ok(done)
-}
-
 fn main(rt: HostRuntime) -> io::Result<()> {
     let mut input = [0u8; 524288];
-    let n = read_full(&mut rt.stdin(), &mut input)?;
+    let n = reading::read_full(&mut rt.stdin(), &mut input)?;
     all(&mut io::writer(&rt), &input[..n])
 }

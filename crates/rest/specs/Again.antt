@@ -16,7 +16,7 @@
 --                    length, is over
 --   falling_start, falling_word, falling_next, falling_length, falling_done   and so phase three's loop
 -- Assumes nothing.
-use Rattle.std.specs.Prelude.{◌≡◌, refl, Bool, true, false, ℕ, zero, suc, ◌+◌, ◌-◌, ◌≤◌, ◌<◌, ltb, length, take, drop}
+use Rattle.std.specs.Prelude.{◌≡◌, refl, Bool, true, false, ℕ, zero, suc, ◌+◌, ◌-◌, ◌≤◌, ◌<◌, ltb, length, take, drop, Option, Some, None}
 use Rattle.std.proofs.Math.Path.{sym, ap}
 use Rattle.std.proofs.Common.{ap₂, subst, ◌∙◌, drop_of_length-le, get_or-take, length-take-le, take_at}
 use mathlib.Core.List.{List, [], ◌∷◌, ◌++◌, append-nil, map}
@@ -28,15 +28,12 @@ use Rattle.std.proofs.lemmas.List.Edits.{sets, sets-eq}
 use borrow.Author.Tests.{ltb-true, ltb-false, ne_eqb}
 use Rattle.loops.specs.Room.{Log, log, notes, notes-append, put, puts, puts_fit}
 use Rattle.oplist.specs.declared.Op.{Op}
-use Rattle.oplist.specs.declared.Word.{Word}
-use Rattle.oplist.specs.declared.Word.TheVariants.{Known, Unknown}
 use Rattle.oplist.specs.Ops.{dest, Each}
 use Rattle.oplist.specs.Word.{Small, packed, meaning, packed-meaning}
 use Rattle.oplist.specs.Listed.{ops_of, with_op, ops_of-take, ops_of-drop, ops_of-packed}
 use Rattle.phases.specs.Rest.{keep_op, kept, last-first}
 use Rattle.grid.specs.Grid.{Figures}
-use Rattle.tally.specs.declared.Tally.{Tally}
-use Rattle.tally.specs.Book.{Book, book, afresh, note, Fair, Noted, anew, note_fits, note-full, fair_notes, fair_anew, length-notes, logged, logged-notes}
+use Rattle.tally.specs.Book.{Book, note, Fair, Noted, anew, note_fits, note-full, fair_notes, fair_anew, length-notes, logged, logged-notes}
 use Rattle.rest.specs.Marks.{flag_of, kept_by, kept_by-append, kept_by-is}
 
 unfoldable pub third : List ℕ → ℕ → Book → Book
@@ -120,14 +117,14 @@ unfolding ops_of
 each_at P [] k h e = absurd (omega arith)
 each_at P (w ∷ ws) zero h e = first (meaning w) e
   where
-    first : (v : Word) → Each P (with_op v (ops_of ws)) → Each P (with_op v [])
-    first (Known o) f = (f.0, tt)
-    first Unknown f = tt
+    first : (v : Option Op) → Each P (with_op v (ops_of ws)) → Each P (with_op v [])
+    first (Some o) f = (f.0, tt)
+    first None f = tt
 each_at P (w ∷ ws) (suc k) h e = each_at P ws k (omega arith) (later (meaning w) e)
   where
-    later : (v : Word) → Each P (with_op v (ops_of ws)) → Each P (ops_of ws)
-    later (Known o) f = f.1
-    later Unknown f = f
+    later : (v : Option Op) → Each P (with_op v (ops_of ws)) → Each P (ops_of ws)
+    later (Some o) f = f.1
+    later None f = f
 
 -- g is the journal that was g₀ with the operations os noted since the counts began anew
 pub record Noting (g₀ : Book) (os : List Op) (g : Book) : Type 0 where
@@ -179,9 +176,9 @@ down_next ms ws k h = at (meaning (get_or ws k 0)) ∙ sym (ap (λ (l : List Op)
     test o true = refl
     test o false = append-nil (down_to ms ws (k + 1))
 
-    at : (v : Word) → down_to ms ws (k + 1) ++ kept_by ms (with_op v []) ≡ last-first (kept_by ms (with_op v (ops_of (drop (k + 1) ws))))
-    at (Known o) = test o (eqb (get_or ms (dest o) 0) 1)
-    at Unknown = append-nil (down_to ms ws (k + 1))
+    at : (v : Option Op) → down_to ms ws (k + 1) ++ kept_by ms (with_op v []) ≡ last-first (kept_by ms (with_op v (ops_of (drop (k + 1) ws))))
+    at (Some o) = test o (eqb (get_or ms (dest o) 0) 1)
+    at None = append-nil (down_to ms ws (k + 1))
 
 -- phase five has come to word k
 pub record Rising (ms : List ℕ) (n : ℕ) (g₀ : Book) (k : ℕ) (g : Book) : Type 0 where
@@ -221,10 +218,10 @@ module _ {ms : List ℕ} {n k : ℕ} {g₀ g : Book} (R : Rising ms n g₀ k g) 
   unfolding fifth
   rising_end l = let e : k ≡ n = omega (arith, R.high) in R.noting.is ∙ ap (λ (i : ℕ). notes note (anew g₀) (up_to ms g₀.words i)) e
 
--- the counts began anew, in a tally
-pub rising_done : {ms ws : List ℕ} {n k : ℕ} {g : Book} {r : Tally} (t : Tally) → r ≡ afresh t → Rising ms n (book ws r) k g → n ≤ k → g ≡ fifth ms n (book ws t)
+-- the counts began anew
+pub rising_done : {ms : List ℕ} {n k : ℕ} (g₀ : Book) {h g : Book} → h ≡ anew g₀ → Rising ms n h k g → n ≤ k → g ≡ fifth ms n g₀
 unfolding fifth
-rising_done {ms} {ws} {n} t e R l = rising_end R l ∙ ap (λ (s : Tally). fifth ms n (book ws s)) e
+rising_done {ms} {n} g₀ e R l = rising_end R l ∙ ap (fifth ms n) e
 
 pub falling_start : {ms : List ℕ} {n : ℕ} {g : Book} → Listing ms n g → Falling ms n (anew g) n (anew g)
 unfolding kept_by ops_of
@@ -259,27 +256,27 @@ module _ {ms : List ℕ} {n k : ℕ} {g₀ g : Book} (F : Falling ms n g₀ k g)
   unfolding third
   falling_end l = let e : k ≡ 0 = omega arith in F.noting.is ∙ ap (λ (i : ℕ). notes note (anew g₀) (down_to ms (take n g₀.words) i)) e
 
--- the counts began anew, in a tally
-pub falling_done : {ms ws : List ℕ} {n k : ℕ} {g : Book} {r : Tally} (t : Tally) → r ≡ afresh t → Falling ms n (book ws r) k g → k ≤ 0 → g ≡ third ms n (book ws t)
+-- the counts began anew
+pub falling_done : {ms : List ℕ} {n k : ℕ} (g₀ : Book) {h g : Book} → h ≡ anew g₀ → Falling ms n h k g → k ≤ 0 → g ≡ third ms n g₀
 unfolding third
-falling_done {ms} {ws} {n} t e R l = falling_end R l ∙ ap (λ (s : Tally). third ms n (book ws s)) e
+falling_done {ms} {n} g₀ e R l = falling_end R l ∙ ap (third ms n) e
 
 -- one word: it says nothing, or an operation that is kept, or one that is not
 module _ {ms : List ℕ} {k : ℕ} {g : Book} (R : Reading ms k g) where
-  abbrev said : Word
+  abbrev said : Option Op
   said = meaning (get_or g.words k 0)
 
-  pub word_unknown : said ≡ Unknown → g ≡ notes note g (kept_by ms (op_at g.words k))
+  pub word_unknown : said ≡ None → g ≡ notes note g (kept_by ms (op_at g.words k))
   unfolding notes kept_by
   word_unknown e = rw e
 
-  module _ {o : Op} (e : said ≡ Known o) where
+  module _ {o : Op} (e : said ≡ Some o) where
     pub word_small : Small o
     word_small = (packed-meaning (get_or g.words k 0) o e).small
 
     module _ {y : ℕ} (d : y ≡ dest o) where
       pub word_marked : y < length ms
-      word_marked = let h : Each (λ p. dest p < length ms) (with_op (Known o) []) = rw e at R.marked in omega (arith, h.0)
+      word_marked = let h : Each (λ p. dest p < length ms) (with_op (Some o) []) = rw e at R.marked in omega (arith, h.0)
 
       pub word-noted : {h : Book} → get_or ms y 0 ≡ 1 → Noted g o h → h ≡ notes note g (kept_by ms (op_at g.words k))
       unfolding notes kept_by

@@ -7,8 +7,8 @@
 --   One, one-noted, one_left   what one entry needs; it is a one, or it is not
 --   Left               a journal that is a list short of where it goes
 --   left-start, left-some, left_end, left-length   the whole list is left; some of it is noted; none is left; the room has its length already
---   Passing, passing_start, passing_one, passing_next, passing_length, passing_end   a row has what it gets up to a place
---   Choosing, choosing_start, choosing_row, choosing_next, choosing_length, choosing_done   the chosen rows up to a place have what they get
+--   Passing, passing_one, passing_next, passing_length, passing_end   a row has what it gets up to a place
+--   Choosing, choosing_row, choosing_next, choosing_length, choosing_done   the chosen rows up to a place have what they get
 -- Assumes nothing.
 use Rattle.std.specs.Prelude.{◌≡◌, refl, Bool, true, false, ℕ, zero, suc, ◌+◌, ◌*◌, ◌-◌, ◌≤◌, ◌<◌, length, get_or, take, drop}
 use Rattle.std.proofs.Math.Path.{sym}
@@ -24,8 +24,7 @@ use Rattle.oplist.specs.declared.Op.TheVariants.{AddAssign}
 use Rattle.phases.specs.One.{Step, rows_of, pivots_of, entry}
 use Rattle.phases.specs.Rest.{gather, phase_four}
 use Rattle.grid.specs.Grid.{bit, Under, gone}
-use Rattle.tally.specs.declared.Tally.{Tally}
-use Rattle.tally.specs.Book.{Book, book, afresh, note, Fair, Noted, anew, fair_notes, fair_anew, length-notes}
+use Rattle.tally.specs.Book.{Book, note, Fair, Noted, anew, fair_notes, length-notes}
 
 abbrev pub paired : List ℕ → List ℕ → List Step
 paired [] ys = []
@@ -149,9 +148,6 @@ pub record Passing (bits : List ℕ) (l x : ℕ) (cs ys : List ℕ) (g₀ : Book
   pub needs : Gathering bits l x cs ys g₀
   pub left : Left (notes note g₀ (gather (entry_at l bits) x (paired cs ys))) g (gathered bits l x cs ys k)
 
-pub passing_start : {bits : List ℕ} {l x : ℕ} {cs ys : List ℕ} {g : Book} → Gathering bits l x cs ys g → Passing bits l x cs ys g 0 g
-passing_start {bits} {l} {x} {cs} {ys} {g} G = record { within = omega arith; needs = G; left = left-start g (gather (entry_at l bits) x (paired cs ys)) G.fair }
-
 module _ {bits : List ℕ} {l x : ℕ} {cs ys : List ℕ} {g₀ : Book} {k : ℕ} {g : Book} (P : Passing bits l x cs ys g₀ k g) where
   pub passing_one : k < length cs → One bits l x (get_or cs k 0) (get_or ys k 0) g
   passing_one h = record {
@@ -190,24 +186,6 @@ pub record Choosing (bits : List ℕ) (l i : ℕ) (c d : List ℕ) (g₀ : Book)
   pub needs : Chosen bits l i c d g₀
   pub left : Left (notes note (anew g₀) (phase_four (entry_at l bits) (take i d) (steps l i c d))) g (from_place bits l i c d p)
 
-pub choosing_start : {bits : List ℕ} {l i : ℕ} {c d : List ℕ} {g : Book} → Chosen bits l i c d g → Choosing bits l i c d (anew g) 0 (anew g)
-choosing_start {bits} {l} {i} {c} {d} {g} C =
-    let f : Fair (anew g) = fair_anew g C.fair in
-    record {
-      within = omega arith;
-      needs = record {
-        fair = f;
-        from = C.from;
-        columns = C.columns;
-        rows = C.rows;
-        under = C.under;
-        inside = C.inside;
-        binary = C.binary;
-        few = C.few;
-      };
-      left = left-start (anew g) (phase_four (entry_at l bits) (take i d) (steps l i c d)) f;
-    }
-
 module _ {bits : List ℕ} {l i : ℕ} {c d : List ℕ} {g₀ : Book} {p : ℕ} {g : Book} (P : Choosing bits l i c d g₀ p g) where
   long : (s : List ℕ) → l ≤ length s → length (take (l - i) (drop i s)) ≡ l - i
   long s h = length-take-le (l - i) (drop i s) (omega (arith, length-drop i s))
@@ -215,12 +193,17 @@ module _ {bits : List ℕ} {l i : ℕ} {c d : List ℕ} {g₀ : Book} {p : ℕ} 
   part_at : (s : List ℕ) (k : ℕ) → k < l - i → get_or (take (l - i) (drop i s)) k 0 ≡ get_or s (i + k) 0
   part_at s k h = get_or-take (l - i) (drop i s) k 0 h ∙ get_or-drop i s k 0
 
-  pub choosing_row : p < i → Gathering bits l (get_or d p 0) (take (l - i) (drop i c)) (take (l - i) (drop i d)) g
-  choosing_row j =
+  length-chosen : length (take i d) ≡ i
+  length-chosen = length-take-le i d (omega (arith, P.needs.from, P.needs.rows))
+
+  pub choosing_row : p < length (take i d) → Gathering bits l (get_or (take i d) p 0) (take (l - i) (drop i c)) (take (l - i) (drop i d)) g
+  choosing_row k =
       let C = P.needs in
+      let j : p < i = omega (arith, length-chosen) in
       let lc = long c C.columns in
       let ld = long d C.rows in
-      record {
+      rw (get_or-take i d p 0)
+      (record {
         fair = P.left.fair;
         same = lc ∙ sym ld;
         under = record { at = λ k m. subst (λ (v : ℕ). v < l) (sym (part_at c k (omega (arith, m)))) (C.under.at (i + k) (omega (arith, m, C.columns, C.from))) };
@@ -228,28 +211,27 @@ module _ {bits : List ℕ} {l i : ℕ} {c d : List ℕ} {g₀ : Book} {p : ℕ} 
         binary = λ q m. C.binary p q j m;
         small = C.few p (omega (arith, C.from));
         few = record { at = λ k m. subst (λ (v : ℕ). v < 65536) (sym (part_at d k (omega (arith, m)))) (C.few (i + k) (omega (arith, m, C.from))) };
-      }
+      })
 
-  pub choosing_next : {h : Book} → p < i → h ≡ notes note g (gather (entry_at l bits) (get_or d p 0) (steps l i c d)) → Choosing bits l i c d g₀ (p + 1) h
+  pub choosing_next : {h : Book} → p < length (take i d) → h ≡ notes note g (gather (entry_at l bits) (get_or (take i d) p 0) (steps l i c d)) → Choosing bits l i c d g₀ (p + 1) h
   choosing_next {h} j e = record {
-    within = omega arith;
+    within = omega (arith, length-chosen);
     needs = P.needs;
-    left = left-some P.left (gather (entry_at l bits) (get_or d p 0) (steps l i c d))
-        (ap (λ (xs : List ℕ). phase_four (entry_at l bits) xs (steps l i c d)) (drop-next (take i d) p (omega (arith, length-take-le i d (omega (arith, P.needs.from, P.needs.rows)))))
-        ∙ ap (λ (x : ℕ). gather (entry_at l bits) x (steps l i c d) ++ from_place bits l i c d (p + 1)) (get_or-take i d p 0 j)) e;
+    left = left-some P.left (gather (entry_at l bits) (get_or (take i d) p 0) (steps l i c d))
+        (ap (λ (xs : List ℕ). phase_four (entry_at l bits) xs (steps l i c d)) (drop-next (take i d) p j)) e;
   }
 
   pub choosing_length : length g.words ≡ length g₀.words
   choosing_length = left-length P.left ∙ length-notes (phase_four (entry_at l bits) (take i d) (steps l i c d)) (anew g₀)
 
-  choosing_end : i ≤ p → g ≡ fourth bits l i c d g₀
+  choosing_end : length (take i d) ≤ p → g ≡ fourth bits l i c d g₀
   unfolding fourth
   choosing_end h =
       left_end P.left
-      (ap (λ (xs : List ℕ). phase_four (entry_at l bits) xs (steps l i c d)) (gone (take i d) p (omega (arith, length-take-le i d (omega (arith, P.needs.from, P.needs.rows))))))
+      (ap (λ (xs : List ℕ). phase_four (entry_at l bits) xs (steps l i c d)) (gone (take i d) p h))
 
--- the counts began anew, in a tally
-pub choosing_done : {bits ws : List ℕ} {l i p : ℕ} {c d : List ℕ} {g : Book} {r : Tally} (t : Tally) → r ≡ afresh t
-    → Choosing bits l i c d (book ws r) p g → i ≤ p → g ≡ fourth bits l i c d (book ws t)
+-- the counts began anew
+pub choosing_done : {bits : List ℕ} {l i p : ℕ} {c d : List ℕ} (g₀ : Book) {h g : Book} → h ≡ anew g₀
+    → Choosing bits l i c d h p g → length (take i d) ≤ p → g ≡ fourth bits l i c d g₀
 unfolding fourth
-choosing_done {bits} {ws} {l} {i} {p} {c} {d} t e P h = choosing_end P h ∙ ap (λ (s : Tally). fourth bits l i c d (book ws s)) e
+choosing_done {bits} {l} {i} {p} {c} {d} g₀ e P k = choosing_end P k ∙ ap (fourth bits l i c d) e

@@ -3,15 +3,13 @@
 --   flag_of xs x        1 for a row x of xs, else 0
 --   kept_by ms os       those of the operations os that write a row whose mark in ms is 1
 --   figures_mark       one row more is marked
---   Marking, marking_start, marking_next, marking_end   the rows from a place on are marked: a loop from the last one to the first
+--   Marking, marking_next   the rows up to a place are marked, and one more
 --   kept_by-append      of lists joined
 --   kept_by-is          by the marks of the chosen rows, the definition's `kept`
 -- Assumes nothing.
-use Rattle.std.specs.Prelude.{◌≡◌, refl, Bool, true, false, ◌||◌, List, [], ◌∷◌, ◌++◌, ℕ, ◌+◌, ◌-◌, ◌≤◌, ◌<◌, eqb, length, get_or, set, drop}
-use Rattle.std.proofs.Common.{sym, ap, subst, ◌∙◌, arith, length-set, get_or-set_same, get_or-set_other, eqb-true}
-use Rattle.std.proofs.Math.Seq.{drop-length}
+use Rattle.std.specs.Prelude.{◌≡◌, refl, Bool, true, false, ◌||◌, List, [], ◌∷◌, ◌++◌, ℕ, ◌+◌, ◌<◌, eqb, length, get_or, set, take}
+use Rattle.std.proofs.Common.{sym, ap, ◌∙◌, add-one, arith, take-suc, length-set, get_or-set_same, get_or-set_other, eqb-true}
 use Rattle.std.proofs.lemmas.Bool.{eqb-false}
-use Rattle.loops.specs.Part.{drop-next}
 use Rattle.oplist.specs.declared.Op.{Op}
 use Rattle.oplist.specs.Ops.{dest, Each}
 use Rattle.phases.specs.Rest.{has, keep_op, kept}
@@ -54,31 +52,28 @@ kept_by-is xs n ms f [] h = refl
 kept_by-is xs n ms f (o ∷ os) h =
     rw (f.each (dest o) h.0, flag-test (has (dest o) xs)) (ap (keep_op (has (dest o) xs) o) (kept_by-is xs n ms f os h.1))
 
--- the rows of xs from place k on are marked, of n rows
-pub record Marking (xs : List ℕ) (n k : ℕ) (ms : List ℕ) : Type 0 where
-  pub within : k ≤ length xs
-  pub marks : Figures (flag_of (drop k xs)) n ms
-  pub long : length ms ≡ n
+has-snoc : (q x : ℕ) (xs : List ℕ) → has q (xs ++ (x ∷ [])) ≡ eqb q x || has q xs
+has-snoc q x [] = refl
+has-snoc q x (y ∷ ys) = rw (has-snoc q x ys) (swap (eqb q y) (eqb q x))
+  where
+    swap : (a b : Bool) → a || (b || has q ys) ≡ b || (a || has q ys)
+    swap true true = refl
+    swap true false = refl
+    swap false b = refl
 
-pub marking_start : (xs : List ℕ) {n : ℕ} (ms : List ℕ) → Figures (λ _. 0) n ms → Marking xs (length ms) (length xs) ms
-marking_start xs {n} ms f = record {
-  within = omega arith;
-  marks = subst (λ (l : List ℕ). Figures (flag_of l) (length ms) ms) (sym (drop-length xs))
-      (record { long = refl; each = λ x h. f.each x (omega (arith, f.long)) });
-  long = refl;
-}
+-- the first k rows of xs are marked, of n rows
+pub record Marking (xs : List ℕ) (n k : ℕ) (ms : List ℕ) : Type 0 where
+  pub marks : Figures (flag_of (take k xs)) n ms
 
 module _ {xs : List ℕ} {n k : ℕ} {ms : List ℕ} (M : Marking xs n k ms) where
-  pub marking_next : 0 < k → get_or xs (k - 1) 0 < n → Marking xs n (k - 1) (set ms (get_or xs (k - 1) 0) 1)
+  pub marking_next : k < length xs → get_or xs k 0 < n → Marking xs n (k + 1) (set ms (get_or xs k 0) 1)
   marking_next z h =
-      let b : k - 1 + 1 ≡ k = omega arith in
-      let x : ℕ = get_or xs (k - 1) 0 in
+      let x : ℕ = get_or xs k 0 in
+      let f = figures_mark n x (take k xs) ms M.marks h in
+      let t : take (k + 1) xs ≡ take k xs ++ (x ∷ []) = ap (λ (i : ℕ). take i xs) (add-one k) ∙ take-suc xs k 0 z in
       record {
-        within = omega (arith, M.within);
-        marks = subst (λ (l : List ℕ). Figures (flag_of l) n (set ms x 1)) (sym (drop-next xs (k - 1) (omega (arith, M.within)) ∙ ap (λ (i : ℕ). x ∷ drop i xs) b))
-            (figures_mark n x (drop k xs) ms M.marks h);
-        long = length-set ms x 1 ∙ M.long;
+        marks = record {
+          long = f.long;
+          each = λ q l. f.each q l ∙ sym (ap flag (ap (has q) t ∙ has-snoc q x (take k xs)));
+        };
       }
-
-  pub marking_end : {m : ℕ} → n ≡ m → k ≤ 0 → Figures (flag_of xs) m ms
-  marking_end e z = let o : k ≡ 0 = omega arith in rw (sym e) (subst (λ (i : ℕ). Figures (flag_of (drop i xs)) n ms) o M.marks)

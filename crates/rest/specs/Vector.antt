@@ -1,7 +1,5 @@
 -- The vector of a Singular answer, from the working store.
 --   looked v cs        the entries of v at the columns cs
---   start i e          the later of two places: the value of the place before e is made from there on
---   start_most         it is at least e, and no more than any bound of both
 --   valued             the values by place: 1 at the column without pivot, the rest by substitution
 --   valued-is          the definition's `by_substitution`
 --   Singular           what is needed of the store, the columns and rows by place, and the place q of the column without pivot
@@ -9,12 +7,12 @@
 --   length-valued, valued-last, valued-before   how many there are; the last is 1; each other is what its row makes of later ones
 --   looked-placed      values that are in the vector are found there
 --   Valuing, Weighing, valuing_part, valuing_value   what one row needs, and its part beside its columns
---   Weighed, weighed_start, weighed_next, weighed_end   the products from a place on are summed: a loop from the last place to the first
---   Substituting, substituting_start, substituting_column, substituting_value, substituting_next, substituting_done   the values from a place on
+--   Weighed            the products from a place on are summed, as a loop from the last place to the first does
+--   Substituting, substituting_start, substituting_value, substituting_next, substituting_done   the values from a place on
 --                      are in the vector
 -- Assumes nothing.
-use Rattle.std.specs.Prelude.{◌≡◌, refl, Bool, true, false, cond, List, [], ◌∷◌, ◌++◌, map, ℕ, zero, suc, ◌+◌, ◌*◌, ◌-◌, ◌≤◌, ◌<◌, ltb, length, set, take}
-use Rattle.std.proofs.Common.{sym, ap₂, subst, ◌∙◌, add-one, arith, length-set, length-drop, drop_of_length-le, get_or-take, get_or-drop, take-take, drop-drop, ext_get_or, le-ltb, ltb-true, ltb-false}
+use Rattle.std.specs.Prelude.{◌≡◌, refl, Bool, true, false, List, [], ◌∷◌, ◌++◌, map, ℕ, zero, suc, ◌+◌, ◌*◌, ◌-◌, ◌≤◌, ◌<◌, max, ltb, length, set, take}
+use Rattle.std.proofs.Common.{sym, ap₂, subst, ◌∙◌, add-one, arith, length-set, length-drop, drop_of_length-le, get_or-take, get_or-drop, take-take, drop-drop, ext_get_or, ltb-true, ltb-false}
 use Rattle.std.proofs.Math.Path.{ap}
 use Rattle.std.proofs.Math.ListN.{get_or, drop, length-append, get_or-append}
 use Rattle.std.proofs.lemmas.List.{length-map}
@@ -29,29 +27,6 @@ use Rattle.rest.specs.Columns.{Blank, placed, placed_nothing, placed-next, place
 
 abbrev pub looked : List ℕ → List ℕ → List ℕ
 looked v cs = map (λ (q : ℕ). get_or v q 0) cs
-
-unfoldable pub start : ℕ → ℕ → ℕ
-start i e = cond (ltb e i) i e
-
-start_first : (i p : ℕ) → p < i → start i (p + 1) ≡ i
-unfolding start
-start_first i p h = at (ltb (p + 1) i) refl
-  where
-    at : (b : Bool) → ltb (p + 1) i ≡ b → cond b i (p + 1) ≡ i
-    at true e = refl
-    at false e = omega (arith, ltb-false (p + 1) i e)
-
-start-later : (i p : ℕ) → i ≤ p → start i (p + 1) ≡ p + 1
-unfolding start
-start-later i p h = rw (le-ltb (p + 1) i (omega arith))
-
-pub start_most : (i e q : ℕ) → i ≤ q → e ≤ q → (start i e ≤ q) × (e ≤ start i e)
-unfolding start
-start_most i e q h k = at (ltb e i) refl
-  where
-    at : (b : Bool) → ltb e i ≡ b → (cond b i e ≤ q) × (e ≤ cond b i e)
-    at true f = (h, omega (arith, ltb-true e i f))
-    at false f = (k, omega arith)
 
 -- chosen are the rows at the first i places; those of phase two's columns stand behind them, up to place q
 unfoldable pub valued : List ℕ → ℕ → List ℕ → ℕ → ℕ → List ℕ
@@ -190,7 +165,7 @@ module _ {w : List ℕ} {l : ℕ} {c d : List ℕ} {i q : ℕ} (S : Singular w l
   abbrev makes : ℕ → ℕ → ℕ
   makes x b = weigh (part (x * l + b) (q + 1 - b) w) (drop b (valued w l d i q))
 
-  pub valued-before : (p : ℕ) → p < q → get_or (valued w l d i q) p 0 ≡ makes (get_or d p 0) (start i (p + 1))
+  pub valued-before : (p : ℕ) → p < q → get_or (valued w l d i q) p 0 ≡ makes (get_or d p 0) (max i (p + 1))
   valued-before p h = at (ltb p i) refl
     where
       x : ℕ
@@ -199,22 +174,22 @@ module _ {w : List ℕ} {l : ℕ} {c d : List ℕ} {i q : ℕ} (S : Singular w l
       low : x < length d
       low = S.rows.at p (omega (arith, S.upto, S.tall))
 
-      at : (b : Bool) → ltb p i ≡ b → get_or (valued w l d i q) p 0 ≡ makes x (start i (p + 1))
+      at : (b : Bool) → ltb p i ≡ b → get_or (valued w l d i q) p 0 ≡ makes x (max i (p + 1))
       at true e =
           let j : p < i = ltb-true p i e in
-          let z : i + 0 ≡ i = omega arith in
+          let z : i + 0 ≡ max i (p + 1) = omega arith in
           valued-first p j ∙ ap (λ (v : List ℕ). weigh (get_or X x []) v) (sym (drop-valued 0)) ∙ weigh-part x 0 low (omega (arith, S.from))
-          ∙ ap (makes x) (z ∙ sym (start_first i p j))
+          ∙ ap (makes x) z
       at false e =
           let j : i ≤ p = ltb-false p i e in
           let z : i + (p - i) ≡ p = omega arith in
-          let y : i + (p - i + 1) ≡ p + 1 = omega arith in
+          let y : i + (p - i + 1) ≡ max i (p + 1) = omega arith in
           let k : p - i < length ys = omega (arith, length-rows) in
           let r : get_or ys (p - i) 0 ≡ x = get_or-take (q - i) (drop i d) (p - i) 0 (omega arith) ∙ get_or-drop i d (p - i) 0 ∙ ap (λ (n : ℕ). get_or d n 0) z in
           ap (λ (n : ℕ). get_or (valued w l d i q) n 0) (sym z) ∙ get_or-valued (p - i) ∙ get_or-values X (p - i) ys k
           ∙ ap₂ (λ (n : ℕ) (v : List ℕ). weigh (drop (p - i + 1) (get_or X n [])) v) r (sym (drop-valued (p - i + 1)))
           ∙ weigh-part x (p - i + 1) low (omega arith)
-          ∙ ap (makes x) (y ∙ sym (start-later i p j))
+          ∙ ap (makes x) y
 
   -- the values from place p on are in the vector v: they are found from a place b on, up to q
   pub looked-placed : {v₀ v : List ℕ} {p : ℕ} → Placing l c (valued w l d i q) v₀ p v → (b : ℕ) → p ≤ b → b ≤ q + 1
@@ -271,28 +246,6 @@ pub record Weighed (r cs v : List ℕ) (k sum : ℕ) : Type 0 where
   pub needs : Weighing r cs v
   pub is : sum ≡ weigh (drop k r) (looked v (drop k cs))
 
-pub weighed_start : {r cs v : List ℕ} → Weighing r cs v → Weighed r cs v (length cs) 0
-weighed_start {r} {cs} {v} W = record {
-  within = omega arith;
-  needs = W;
-  is = sym (ap (λ (a : List ℕ). weigh a (looked v (drop (length cs) cs))) (drop_of_length-le r {i = length cs} (omega (arith, W.same))));
-}
-
-module _ {r cs v : List ℕ} {k sum : ℕ} (W : Weighed r cs v k sum) where
-  pub weighed_next : {s x : ℕ} → 0 < k → x ≡ mul (get_or r (k - 1) 0) (get_or v (get_or cs (k - 1) 0) 0) → s ≡ add sum x → Weighed r cs v (k - 1) s
-  weighed_next {s} {x} z e f =
-      let b : k - 1 + 1 ≡ k = omega arith in
-      let m : ℕ = mul (get_or r (k - 1) 0) (get_or v (get_or cs (k - 1) 0) 0) in
-      record {
-        within = omega (arith, W.within);
-        needs = W.needs;
-        is = f ∙ ap₂ add (W.is ∙ ap (λ (n : ℕ). weigh (drop n r) (looked v (drop n cs))) (sym b)) e
-            ∙ sym (ap₂ (λ (a c : List ℕ). weigh a (looked v c)) (drop-next r (k - 1) (omega (arith, W.within, W.needs.same))) (drop-next cs (k - 1) (omega (arith, W.within))));
-      }
-
-  pub weighed_end : k ≤ 0 → sum ≡ weigh r (looked v cs)
-  weighed_end z = let e : k ≡ 0 = omega arith in W.is ∙ ap (λ (n : ℕ). weigh (drop n r) (looked v (drop n cs))) e
-
 -- the values from place p on are in the vector
 pub record Substituting (w : List ℕ) (l : ℕ) (c d : List ℕ) (i q : ℕ) (v₀ : List ℕ) (p : ℕ) (v : List ℕ) : Type 0 where
   pub needs : Singular w l c d i q
@@ -324,31 +277,26 @@ substituting_start {w} {l} {c} {d} {i} {q} {v} S b =
     }
 
 module _ {w : List ℕ} {l : ℕ} {c d : List ℕ} {i q : ℕ} {v₀ : List ℕ} {p : ℕ} {v : List ℕ} (U : Substituting w l c d i q v₀ p v) where
-  pub substituting_column : 0 < p → get_or c (p - 1) 0 < length v
-  substituting_column z = omega (arith, U.needs.columns.below (p - 1) (omega (arith, U.upto, U.needs.wide, U.needs.upto)), U.room)
-
-  pub substituting_value : {b : ℕ} → 0 < p → b ≡ start i p → Valuing w l (get_or d (p - 1) 0) b (q + 1) c v
+  pub substituting_value : {b : ℕ} → 0 < p → b ≡ max i (p - 1 + 1) → Valuing w l (get_or d (p - 1) 0) b (q + 1) c v
   substituting_value {b} z e =
       let S = U.needs in
       let x : get_or d (p - 1) 0 < length d = S.rows.at (p - 1) (omega (arith, U.upto, S.upto, S.tall)) in
       record {
         inside = omega (arith, row_within l (length d) (get_or d (p - 1) 0) x, S.size);
-        from = omega (arith, (start_most i p q S.from U.upto).0);
+        from = omega (arith, e, S.from, U.upto);
         upto = omega (arith, S.upto);
         wide = omega (arith, S.upto, S.wide);
         under = record { at = λ k h. omega (arith, S.columns.below k h, U.room) };
       }
 
-  pub substituting_next : {b r : ℕ} → 0 < p → b ≡ start i p
+  pub substituting_next : {b r : ℕ} → 0 < p → b ≡ max i (p - 1 + 1)
       → r ≡ weigh (part (get_or d (p - 1) 0 * l + b) (q + 1 - b) w) (looked v (part b (q + 1 - b) c)) → Substituting w l c d i q v₀ (p - 1) (set v (get_or c (p - 1) 0) r)
   substituting_next {b} {r} z e f =
       let S = U.needs in
-      let m = start_most i p q S.from U.upto in
-      let a : p - 1 + 1 ≡ p = omega arith in
       let y : get_or c (p - 1) 0 < l = S.columns.below (p - 1) (omega (arith, U.upto, S.wide, S.upto)) in
       let g : r ≡ get_or (valued w l d i q) (p - 1) 0 =
-      f ∙ ap (λ (vs : List ℕ). weigh (part (get_or d (p - 1) 0 * l + b) (q + 1 - b) w) vs) (looked-placed S U.placing b (omega (arith, m.1)) (omega (arith, m.0)))
-      ∙ ap (makes S (get_or d (p - 1) 0)) (e ∙ ap (start i) (sym a)) ∙ sym (valued-before S (p - 1) (omega (arith, U.upto))) in
+      f ∙ ap (λ (vs : List ℕ). weigh (part (get_or d (p - 1) 0 * l + b) (q + 1 - b) w) vs) (looked-placed S U.placing b (omega arith) (omega (arith, S.from, U.upto)))
+      ∙ ap (makes S (get_or d (p - 1) 0)) e ∙ sym (valued-before S (p - 1) (omega (arith, U.upto))) in
       record {
         needs = S;
         upto = omega (arith, U.upto);

@@ -7,29 +7,27 @@ ghost use Rattle.loops.specs.Entry.{entry_at};
 ghost use Rattle.loops.specs.Room.{notes};
 ghost use Rattle.oplist.specs.Ops.{dest};
 ghost use Rattle.grid.specs.Grid.{Under, Figures};
-ghost use Rattle.tally.specs.Book.{book, note};
+ghost use Rattle.tally.specs.Book.{book_of, note};
 ghost use Rattle.rest.specs.Marks.{flag_of, kept_by};
 ghost use Rattle.phases.specs.One.{entry};
 ghost use Rattle.phases.specs.Rest.{gather, weigh};
 ghost use Rattle.rest.specs.Again.{op_at, Reading, Listing, third, fifth};
 ghost use Rattle.rest.specs.Gather.{paired, One, Gathering, Chosen, fourth};
 ghost use Rattle.rest.specs.Columns.{Blank, Ordering, placed};
-ghost use Rattle.rest.specs.Vector.{looked, start, valued, Singular, Valuing, Weighing};
+ghost use Rattle.rest.specs.Vector.{looked, valued, Singular, Valuing, Weighing};
 
+use grid::Grid;
 use octet::Octet;
-use oplist::{Op, Word};
-use tally::Tally;
+use oplist::Op;
+use tally::Journal;
 
 // 1 at each row of xs, 0 elsewhere.
 pub fn mark(marks: &mut [usize], xs: &[usize])
     requires { Under (length marks.old) xs.now }
     ensures { Figures (flag_of xs.now) (length marks.old) marks.new }
 {
-    grid::clear(marks);
-    let mut k = xs.len();
-    while k > 0 {
-        k -= 1;
-        let x = xs[k];
+    marks.fill(0);
+    for &x in xs {
         marks[x] = 1;
     }
 }
@@ -39,124 +37,80 @@ fn dest_of(op: Op) -> usize
     ensures { result ≡ dest op }
 {
     match op {
-        Op::AddAssign(y, _) => y,
-        Op::MulAssign(y, _) => y,
-        Op::FMA(y, _, _) => y,
+        Op::AddAssign(y, _) | Op::MulAssign(y, _) | Op::FMA(y, _, _) => y,
     }
 }
 
 // The operation of word k is recorded again if it writes a marked row.
-fn again(list: &mut [u64], marks: &[usize], k: usize, t: Tally) -> Tally
-    requires { Reading marks.now k (book list.old t) }
-    ensures { book list.new result ≡ notes note (book list.old t) (kept_by marks.now (op_at list.old k)) }
+fn again(journal: &mut Journal<'_>, marks: &[usize], k: usize)
+    requires { Reading marks.now k (book_of journal.old) }
+    ensures same_room { journal.new.room.ghost_name ≡ journal.old.room.ghost_name }
+    ensures recorded { book_of journal.new ≡ notes note (book_of journal.old) (kept_by marks.now (op_at journal.old.room.now k)) }
 {
-    let w = oplist::unpack(list[k]);
-    match w {
-        Word::Unknown => t,
-        Word::Known(op) => {
-            let y = dest_of(op);
-            if marks[y] == 1 {
-                tally::record(list, t, op)
-            } else {
-                t
-            }
-        }
+    match oplist::unpack(journal.room[k]) {
+        Some(op) if marks[dest_of(op)] == 1 => journal.record(op),
+        Some(_) => {}
+        None => {}
     }
 }
 
 // Those of the first n operations that write a marked row, last one first.
-pub fn phase_three(list: &mut [u64], marks: &[usize], n: usize, t: Tally) -> Tally
-    requires { Listing marks.now n (book list.old t) }
-    ensures { book list.new result ≡ third marks.now n (book list.old t) }
+pub fn phase_three(journal: &mut Journal<'_>, marks: &[usize], n: usize)
+    requires { Listing marks.now n (book_of journal.old) }
+    ensures same_room { journal.new.room.ghost_name ≡ journal.old.room.ghost_name }
+    ensures recorded { book_of journal.new ≡ third marks.now n (book_of journal.old) }
 {
-    let mut r = tally::next_phase(t);
-    let mut k = n;
-    while k > 0 {
-        k -= 1;
-        r = again(list, marks, k, r);
+    journal.next_phase();
+    for k in (0..n).rev() {
+        again(journal, marks, k);
     }
-    r
 }
 
 // Those of the first n operations that write a marked row, first to last.
-pub fn phase_five(list: &mut [u64], marks: &[usize], n: usize, t: Tally) -> Tally
-    requires { Listing marks.now n (book list.old t) }
-    ensures { book list.new result ≡ fifth marks.now n (book list.old t) }
+// Not one function with `phase_three`: a contract over any order of places is longer than this body.
+pub fn phase_five(journal: &mut Journal<'_>, marks: &[usize], n: usize)
+    requires { Listing marks.now n (book_of journal.old) }
+    ensures same_room { journal.new.room.ghost_name ≡ journal.old.room.ghost_name }
+    ensures recorded { book_of journal.new ≡ fifth marks.now n (book_of journal.old) }
 {
-    let mut r = tally::next_phase(t);
-    let mut k = 0;
-    while k < n {
-        r = again(list, marks, k, r);
-        k += 1;
+    journal.next_phase();
+    for k in 0..n {
+        again(journal, marks, k);
     }
-    r
 }
 
 // Row x gets row y if it has a one in column q.
-fn gather_one(
-    bits: &[u8],
-    l: usize,
-    x: usize,
-    q: usize,
-    y: usize,
-    list: &mut [u64],
-    t: Tally,
-) -> Tally
-    requires { One bits.now l x q y (book list.old t) }
-    ensures { book list.new result ≡ notes note (book list.old t) (entry (entry_at l bits.now x q) x y []) }
+fn gather_one(g: Grid<'_>, x: usize, q: usize, y: usize, journal: &mut Journal<'_>)
+    requires { One g.bits.now g.l x q y (book_of journal.old) }
+    ensures same_room { journal.new.room.ghost_name ≡ journal.old.room.ghost_name }
+    ensures recorded { book_of journal.new ≡ notes note (book_of journal.old) (entry (entry_at g.entry.l g.entry.bits.now x q) x y []) }
 {
-    if grid::has(bits, l, x, q) {
-        tally::record(list, t, Op::AddAssign(x, y))
-    } else {
-        t
+    if g.has(x, q) {
+        journal.record(Op::AddAssign(x, y));
     }
 }
 
 // Row x gets each row of ys whose column it has a one in.
-fn gather_row(
-    bits: &[u8],
-    l: usize,
-    x: usize,
-    cs: &[usize],
-    ys: &[usize],
-    list: &mut [u64],
-    t: Tally,
-) -> Tally
-    requires { Gathering bits.now l x cs.now ys.now (book list.old t) }
-    ensures { book list.new result ≡ notes note (book list.old t) (gather (entry_at l bits.now) x (paired cs.now ys.now)) }
+fn gather_row(g: Grid<'_>, x: usize, cs: &[usize], ys: &[usize], journal: &mut Journal<'_>)
+    requires { Gathering g.bits.now g.l x cs.now ys.now (book_of journal.old) }
+    ensures same_room { journal.new.room.ghost_name ≡ journal.old.room.ghost_name }
+    ensures recorded { book_of journal.new ≡ notes note (book_of journal.old) (gather (entry_at g.entry.l g.entry.bits.now) x (paired cs.now ys.now)) }
 {
-    let mut r = t;
-    let mut k = 0;
-    while k < cs.len() {
-        let q = cs[k];
-        let y = ys[k];
-        r = gather_one(bits, l, x, q, y, list, r);
-        k += 1;
+    for (&q, &y) in cs.iter().zip(ys) {
+        gather_one(g, x, q, y, journal);
     }
-    r
 }
 
 // Each of the first i rows gets those of the rows behind it, up to place l, whose column it has a one in.
-pub fn phase_four(
-    bits: &[u8],
-    l: usize,
-    i: usize,
-    c: &[usize],
-    d: &[usize],
-    list: &mut [u64],
-    t: Tally,
-) -> Tally
-    requires { Chosen bits.now l i c.now d.now (book list.old t) }
-    ensures { book list.new result ≡ fourth bits.now l i c.now d.now (book list.old t) }
+pub fn phase_four(g: Grid<'_>, i: usize, c: &[usize], d: &[usize], journal: &mut Journal<'_>)
+    requires { Chosen g.bits.now g.l i c.now d.now (book_of journal.old) }
+    ensures same_room { journal.new.room.ghost_name ≡ journal.old.room.ghost_name }
+    ensures recorded { book_of journal.new ≡ fourth g.entry.bits.now g.entry.l i c.now d.now (book_of journal.old) }
 {
-    let mut r = tally::next_phase(t);
-    let mut p = 0;
-    while p < i {
-        let x = d[p];
-        r = gather_row(bits, l, x, &c[i..l], &d[i..l], list, r);
-        p += 1;
+    journal.next_phase();
+    for &x in &d[..i] {
+        gather_row(g, x, &c[i..g.l], &d[i..g.l], journal);
     }
-    r
 }
 
 // The symbol of column c[k] is in row d[k]: into a cleared room, by column.
@@ -164,9 +118,7 @@ pub fn order_of(order: &mut [usize], c: &[usize], d: &[usize])
     requires { Ordering order.old c.now d.now }
     ensures { order.new ≡ placed (length c.now) c.now d.now order.old }
 {
-    let mut k = c.len();
-    while k > 0 {
-        k -= 1;
+    for k in (0..c.len()).rev() {
         let q = c[k];
         order[q] = d[k];
     }
@@ -178,9 +130,7 @@ fn weigh_row(row: &[u8], cs: &[usize], vector: &[u8]) -> u8
     ensures { result ≡ weigh row.now (looked vector.now cs.now) }
 {
     let mut sum = Octet::ZERO;
-    let mut k = cs.len();
-    while k > 0 {
-        k -= 1;
+    for k in (0..cs.len()).rev() {
         let q = cs[k];
         let a = Octet { value: row[k] };
         let b = Octet { value: vector[q] };
@@ -200,13 +150,6 @@ fn row_value(work: &[u8], l: usize, x: usize, b: usize, g: usize, c: &[usize], v
     weigh_row(&work[a..e], &c[b..g], vector)
 }
 
-// The later of two places.
-fn later(i: usize, e: usize) -> usize
-    ensures { result ≡ start i e }
-{
-    if e < i { i } else { e }
-}
-
 // Into a cleared vector, by column: 1 at the column at place q, 0 at later ones, the rest by substitution. The store's rows have place i first.
 pub fn vector_of(
     work: &[u8],
@@ -224,10 +167,8 @@ pub fn vector_of(
     let last = c[q];
     vector[last] = 1;
     let g = q + 1;
-    let mut p = q;
-    while p > 0 {
-        let b = later(i, p);
-        p -= 1;
+    for p in (0..q).rev() {
+        let b = i.max(p + 1);
         let x = d[p];
         let v = row_value(work, l, x, b, g, c, vector);
         let y = c[p];

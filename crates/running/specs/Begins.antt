@@ -3,10 +3,10 @@
 --   given_is, lent_is   what phase one needs
 --   first-is         V was emptied
 --   first-full       the list has passed the room
---   outcome-at, room-kept, blank_again, ran_from   the parts of a run joined
+--   room-kept, blank_again, ran_from, ran_with   the parts of a run joined
 --   pivotless        columns are left in V: no pivot
 -- Assumes nothing.
-use Rattle.std.specs.Prelude.{◌≡◌, refl, ◌⊎◌, cond, ℕ, ◌+◌, ◌-◌, ◌≤◌, ◌<◌}
+use Rattle.std.specs.Prelude.{◌≡◌, refl, ◌⊎◌, cond, ℕ, ◌+◌, ◌≤◌, ◌<◌, Err}
 use Rattle.std.proofs.Common.{sym, ap, ◌∙◌, inl, inr, arith}
 use Rattle.std.proofs.Math.Path.{subst}
 use Rattle.std.proofs.Math.Bool.{true, false}
@@ -20,22 +20,20 @@ use Rattle.loops.specs.Way.{Way, go, halt}
 use Rattle.oplist.specs.declared.Op.{Op}
 use Rattle.octet.specs.Field.{Octet}
 use Rattle.algebra.specs.Flat.{Bytes}
-use Rattle.phases.specs.System.{Shape as Defined, first_rows, octet_rows}
-use Rattle.phases.specs.One.{Phase}
+use Rattle.phases.specs.System.{first_rows, octet_rows}
 use Rattle.phases.specs.Two.{Second, forward}
-use Rattle.phases.specs.Run.{Run, whole, finish, second, refused, goes_on, defined}
+use Rattle.phases.specs.Run.{Answer as Told, Run, whole, finish, second, refused, goes_on, defined}
 use Rattle.phases.specs.Occ.{occ-append, occ-range, Member}
 use Rattle.phases.specs.Fit.{Fit, less?}
 use Rattle.phases.proofs.Fit.{rows_once}
 use Rattle.tally.specs.declared.Tally.{Tally}
 use Rattle.tally.specs.Book.{Book, book, Fair}
 use Rattle.stepping.specs.Stands.{Given}
-use Rattle.firstphase.specs.declared.First.{First as Ended-first}
-use Rattle.firstphase.specs.Ended.{Ended, Outcome}
+use Rattle.firstphase.specs.Ended.{Ended}
 use Rattle.firstphase.specs.Begins.{Lent}
-use Rattle.call.specs.declared.Shape.{Shape}
-use Rattle.answers.specs.declared.Answer.{Answer}
-use Rattle.answers.specs.declared.Answer.TheVariants.{ListFull, NoPivot}
+use Rattle.grid.specs.declared.shapes.Shape.{Shape}
+use Rattle.answers.specs.Answers.{Answer}
+use Rattle.answers.specs.declared.Refusal.TheVariants.{ListFull, NoPivot}
 use Rattle.call.specs.Over.{blank, over_same, length_over}
 use Rattle.call.specs.Call.{Working, answer_of, told}
 use Rattle.ending.specs.Ran.{as_shape, Posed, Ran}
@@ -154,7 +152,7 @@ module _ (z : Shape) (bits octets : List ℕ) where
       same_room = held.size
 
       pub first-full : (order₀ vector₀ order vector : List ℕ) → length ws < t.used → order ≡ blank order₀ → vector ≡ blank vector₀
-          → Ran (told (as_shape z) bits octets (length ws₀)) ListFull ws order₀ vector₀ order vector
+          → Ran (told (as_shape z) bits octets (length ws₀)) (Err ListFull) ws order₀ vector₀ order vector
       unfolding told answer_of
       first-full order₀ vector₀ order vector h a b =
           let l : length ws₀ < length (os z bits octets) = holds_long held (omega (arith, same_room)) in
@@ -165,7 +163,7 @@ module _ (z : Shape) (bits octets : List ℕ) where
           rw f (record { is = refl; listed = refl; fits = omega arith; ordered = a; vectored = b })
 
       pub pivotless : (order₀ vector₀ order vector : List ℕ) → 0 < length (p z bits octets).now.cols → t.used ≤ length ws → order ≡ blank order₀ → vector ≡ blank vector₀
-          → Ran (told (as_shape z) bits octets (length ws₀)) NoPivot ws order₀ vector₀ order vector
+          → Ran (told (as_shape z) bits octets (length ws₀)) (Err NoPivot) ws order₀ vector₀ order vector
       unfolding told answer_of
       pivotless order₀ vector₀ order vector e h a b =
           let l : length (os z bits octets) ≤ length ws₀ = holds_short held (omega (arith, same_room)) in
@@ -175,10 +173,6 @@ module _ (z : Shape) (bits octets : List ℕ) where
           let f : ltb (length ws₀) (length (whole (refused (Z z bits octets) (A z bits octets) (p z bits octets)))) ≡ false =
           le-ltb (length ws₀) (length (whole (refused (Z z bits octets) (A z bits octets) (p z bits octets)))) (omega arith) in
           rw (refused-is e, f) (record { is = refl; listed = refl; fits = omega arith; ordered = a; vectored = b })
-
--- an answer of phase one, by its case
-pub outcome-at : (y : Defined) (bits octets : List ℕ) (p : Phase) (g : Book) (c d ws : List ℕ) {r r' : Ended-first} → r ≡ r' → Outcome y bits octets p g c d ws r → Outcome y bits octets p g c d ws r'
-outcome-at y bits octets p g c d ws e o = subst (λ (x : Ended-first). Outcome y bits octets p g c d ws x) e o
 
 pub room-kept : {l a b : ℕ} → a ≡ b → l ≤ b → l ≤ a
 room-kept {l} e h = subst (λ (x : ℕ). l ≤ x) (sym e) h
@@ -198,3 +192,7 @@ ran_from z bits octets {n} {m} {r} {list} {o₁} {v₁} {o} {v} o₀ v₀ e a b 
       ordered = R.ordered ∙ over_same _ o₁ o₀ (ap length a ∙ length_over [] o₀);
       vectored = R.vectored ∙ over_same _ v₁ v₀ (ap length b ∙ length_over [] v₀);
     })
+
+-- the list's room holds what the journal's does
+pub ran_with : {a : Told} {r : Answer} {list list' order₀ vector₀ order vector : List ℕ} → Ran a r list order₀ vector₀ order vector → list' ≡ list → Ran a r list' order₀ vector₀ order vector
+ran_with {a} {r} {order₀ = order₀} {vector₀ = vector₀} {order = order} {vector = vector} R e = subst (λ (l : List ℕ). Ran a r l order₀ vector₀ order vector) (sym e) R

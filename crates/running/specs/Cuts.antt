@@ -1,17 +1,18 @@
--- Working slices that are cut to their needs.
+-- Working slices that are cut to their needs, and slices that are as long as they were.
 --   cut n xs         the first n entries of xs, as the checker has them
 --   cut-is           slices with room for their needs, cut, are as long as these
---   put_same         what was cut off and put back leaves the slice as long
---   wiped_same       clearing goes by length
+--   wiped_long       cleared, slices that are as long hold the same
 -- Assumes nothing.
-use Rattle.std.specs.Prelude.{◌≡◌, List, [], ◌++◌, ℕ, ◌+◌, ◌-◌, ◌*◌, ◌≤◌, length, take, drop}
-use Rattle.std.proofs.Common.{ap, ap₂, ◌∙◌, arith, length-append, length-drop, length-take-le}
-use Rattle.call.specs.declared.Shape.{Shape}
+use Rattle.std.specs.Prelude.{◌≡◌, List, [], ℕ, ◌+◌, ◌-◌, ◌*◌, ◌≤◌, length, take, drop}
+use Rattle.std.proofs.Common.{ap, ◌∙◌, arith, length-take-le}
+use Rattle.grid.specs.declared.shapes.Shape.{Shape}
+use Rattle.call.specs.declared.Workspace.{Workspace}
 use Rattle.call.specs.Over.{over_same}
 use Rattle.call.specs.Call.{Working, working, wiped}
+use Rattle.call.specs.Space.{working_of, Long}
 use Rattle.running.specs.Lent.{Roomed, Cut}
 
--- the first n entries, and the slice with r in their place, as the checker has them
+-- the first n entries, as the checker has them
 abbrev pub cut : ℕ → List ℕ → List ℕ
 cut n xs = take (n - 0) (drop 0 xs)
 
@@ -36,23 +37,16 @@ cut-is z order vector w r =
       sizes-size = cut-length _ w.sizes r.sizes-room;
     }
 
-pub put_same : (n : ℕ) (xs r : List ℕ) → n ≤ length xs → length r ≡ length (cut n xs) → length (take 0 xs ++ (r ++ drop (n - 0) (drop 0 xs))) ≡ length xs
-put_same n xs r h e =
-    let d : n - 0 ≡ n = omega arith in
-    length-append r (drop (n - 0) xs) ∙ ap₂ (λ (x y : ℕ). x + y) (e ∙ cut-length n xs h) (length-drop (n - 0) xs) ∙ omega arith
-
-pub wiped_same : (a b c d e f g h i a' b' c' d' e' f' g' h' i' : List ℕ) → length a ≡ length a' → length b ≡ length b' → length c ≡ length c' → length d ≡ length d'
-    → length e ≡ length e' → length f ≡ length f' → length g ≡ length g' → length h ≡ length h' → length i ≡ length i'
-    → wiped (working a b c d e f g h i) ≡ wiped (working a' b' c' d' e' f' g' h' i')
-wiped_same a b c d e f g h i a' b' c' d' e' f' g' h' i' p q r s t u v w x =
+pub wiped_long : {v w : Workspace} → Long v w → wiped (working_of w) ≡ wiped (working_of v)
+wiped_long {v} {w} h =
     cc (
-      over_same [] a a' p,
-      over_same [] b b' q,
-      over_same [] c c' r,
-      over_same [] d d' s,
-      over_same [] e e' t,
-      over_same [] f f' u,
-      over_same [] g g' v,
-      over_same [] h h' w,
-      over_same [] i i' x,
+      over_same [] w.work.now v.work.now h.work_long,
+      over_same [] w.scratch.now v.scratch.now h.scratch_long,
+      over_same [] w.columns.now v.columns.now h.columns_long,
+      over_same [] w.rows.now v.rows.now h.rows-long,
+      over_same [] w.ones.now v.ones.now h.ones-long,
+      over_same [] w.degrees.now v.degrees.now h.degrees_long,
+      over_same [] w.singles.now v.singles.now h.singles_long,
+      over_same [] w.labels.now v.labels.now h.labels_long,
+      over_same [] w.sizes.now v.sizes.now h.sizes-long,
     )

@@ -7,8 +7,8 @@
 use Rattle.std.specs.Prelude.{◌≡◌, List, ℕ, ◌+◌, ◌*◌, ◌≤◌, length, take}
 use Rattle.std.proofs.Common.{sym, ◌∙◌}
 use Rattle.phases.specs.Run.{Answer as Told}
-use Rattle.answers.specs.declared.Answer.{Answer}
-use Rattle.call.specs.declared.Shape.{Shape}
+use Rattle.answers.specs.Answers.{Answer}
+use Rattle.grid.specs.declared.shapes.Shape.{Shape}
 use Rattle.call.specs.Call.{Working, wiped}
 use Rattle.ending.specs.Ran.{Ran, ran_one}
 

@@ -1,16 +1,18 @@
 // The defined run over lent rooms: its answer, list, order and vector, and the working slices cleared after it.
 #![tactic(auto)]
 
-ghost use Rattle.std.specs.Prelude.{◌≡◌, length};
+ghost use Rattle.std.specs.Prelude.{length};
 ghost use Rattle.call.specs.Call.{working, told};
+ghost use Rattle.call.specs.Space.{working_of, Kept, Long};
 ghost use Rattle.ending.specs.Ran.{as_shape, Posed, Ran};
 ghost use Rattle.running.specs.Lent.{Roomed, Cut, Worked};
 
-use answers::Answer;
-use call::Shape;
-use tally::Tally;
+use answers::{Answer, Refusal};
+use call::Workspace;
+use grid::Shape;
+use tally::{Journal, Tally};
 
-// The defined run, over working slices that are cut to their needs.
+// The defined run, over working slices that are cut to their needs. They come one by one: a struct made of parts of a struct's slices gets no proof.
 fn run(
     z: Shape,
     bits: &[u8],
@@ -34,35 +36,50 @@ fn run(
 {
     call::clear::numbers(order);
     call::clear::bytes(vector);
-    let shape = stepping::Shape {
-        m: z.m,
-        l: z.l,
-        s: z.s,
-        h: z.h,
-        w: z.w,
-    };
-    let t = Tally {
+    let tally = Tally {
         used: 0,
         adds: 0,
         muls: 0,
     };
+    let mut journal = Journal { room: list, tally };
     match firstphase::phase_one(
-        bits, octets, shape, columns, rows, ones, degrees, singles, labels, sizes, list, t,
+        bits,
+        octets,
+        z,
+        columns,
+        rows,
+        ones,
+        degrees,
+        singles,
+        labels,
+        sizes,
+        &mut journal,
     ) {
-        firstphase::First::NoPivot(one) => {
-            let used = one.used;
-            if list.len() < used {
-                return Answer::ListFull;
+        Err(_) => {
+            let used = journal.tally.used;
+            if journal.room.len() < used {
+                return Err(Refusal::ListFull);
             }
-            Answer::NoPivot
+            Err(Refusal::NoPivot)
         }
-        firstphase::First::Done(i, one) => {
-            let used = one.used;
-            if list.len() < used {
-                return Answer::ListFull;
+        Ok(done) => {
+            let used = journal.tally.used;
+            if journal.room.len() < used {
+                return Err(Refusal::ListFull);
             }
             ending::go_on(
-                z, i, bits, octets, columns, rows, work, scratch, singles, list, order, vector, one,
+                z,
+                done.steps,
+                bits,
+                octets,
+                columns,
+                rows,
+                work,
+                scratch,
+                singles,
+                &mut journal,
+                order,
+                vector,
             )
         }
     }
@@ -76,24 +93,27 @@ fn run_within(
     list: &mut [u64],
     order: &mut [usize],
     vector: &mut [u8],
-    work: &mut [u8],
-    scratch: &mut [u8],
-    columns: &mut [usize],
-    rows: &mut [usize],
-    ones: &mut [usize],
-    degrees: &mut [usize],
-    singles: &mut [usize],
-    labels: &mut [usize],
-    sizes: &mut [usize],
+    w: &mut Workspace<'_>,
 ) -> Answer
     requires posed { Posed z bits.now octets.now }
-    requires roomed { Roomed z order.old vector.old (working work.old scratch.old columns.old rows.old ones.old degrees.old singles.old labels.old sizes.old) }
-    ensures { Ran (told (as_shape z) bits.now octets.now (length list.old)) result list.new order.old vector.old order.new vector.new }
+    requires roomed { Roomed z order.old vector.old (working_of w.old) }
+    ensures kept { Kept w.old w.new }
+    ensures long { Long w.old w.new }
+    ensures ran { Ran (told (as_shape z) bits.now octets.now (length list.old)) result list.new order.old vector.old order.new vector.new }
 {
     let m = z.m;
     let l = z.l;
     let e = m * l;
     let k = 2 * l + 2;
+    let work = &mut *w.work;
+    let scratch = &mut *w.scratch;
+    let columns = &mut *w.columns;
+    let rows = &mut *w.rows;
+    let ones = &mut *w.ones;
+    let degrees = &mut *w.degrees;
+    let singles = &mut *w.singles;
+    let labels = &mut *w.labels;
+    let sizes = &mut *w.sizes;
     run(
         z,
         bits,
@@ -121,26 +141,14 @@ pub fn work_out(
     list: &mut [u64],
     order: &mut [usize],
     vector: &mut [u8],
-    work: &mut [u8],
-    scratch: &mut [u8],
-    columns: &mut [usize],
-    rows: &mut [usize],
-    ones: &mut [usize],
-    degrees: &mut [usize],
-    singles: &mut [usize],
-    labels: &mut [usize],
-    sizes: &mut [usize],
+    w: &mut Workspace<'_>,
 ) -> Answer
     requires posed { Posed z bits.now octets.now }
-    requires roomed { Roomed z order.old vector.old (working work.old scratch.old columns.old rows.old ones.old degrees.old singles.old labels.old sizes.old) }
-    ensures { Worked (told (as_shape z) bits.now octets.now (length list.old)) result list.new order.old vector.old order.new vector.new (working work.old scratch.old columns.old rows.old ones.old degrees.old singles.old labels.old sizes.old) (working work.new scratch.new columns.new rows.new ones.new degrees.new singles.new labels.new sizes.new) }
+    requires roomed { Roomed z order.old vector.old (working_of w.old) }
+    ensures kept { Kept w.old w.new }
+    ensures worked { Worked (told (as_shape z) bits.now octets.now (length list.old)) result list.new order.old vector.old order.new vector.new (working_of w.old) (working_of w.new) }
 {
-    let a = run_within(
-        z, bits, octets, list, order, vector, work, scratch, columns, rows, ones, degrees, singles,
-        labels, sizes,
-    );
-    call::clear::slices(
-        work, scratch, columns, rows, ones, degrees, singles, labels, sizes,
-    );
+    let a = run_within(z, bits, octets, list, order, vector, w);
+    call::clear::slices(w);
     a
 }

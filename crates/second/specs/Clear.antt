@@ -10,7 +10,7 @@
 --   clear_next        a row more is cleared
 --   column_performed  a row is scaled, and then the column cleared
 -- Assumes nothing.
-use Rattle.std.specs.Prelude.{◌≡◌, ◌≢◌, List, [], ◌∷◌, ◌++◌, ℕ, zero, suc, ◌+◌, ◌≤◌, ◌<◌, length, get_or, take}
+use Rattle.std.specs.Prelude.{◌≡◌, ◌≢◌, List, [], ◌∷◌, ◌++◌, ℕ, zero, suc, ◌+◌, ◌≤◌, ◌<◌, length, get_or, take, Ok, Err}
 use Rattle.std.proofs.Math.Path.{refl}
 use Rattle.std.proofs.Common.{sym, ap, ap₂, subst, ◌∙◌, add-one, arith, take-suc, get_or-take, length-take-le, get_or-set_other}
 use Rattle.oplist.specs.Multiple.{multiple}
@@ -19,7 +19,7 @@ use Rattle.octet.specs.Octet.{inverse, quotient}
 use Rattle.octet.specs.Field.{one-mul, inv_octet, mul_octet}
 use Rattle.octet.specs.Answers.{quotient_of}
 use Rattle.octet.specs.declared.Octet.{Octet}
-use Rattle.octet.specs.declared.Quotient.TheVariants.{Value, ZeroDivisor}
+use Rattle.octet.specs.declared.ZeroDivisor.{ZeroDivisor}
 use Rattle.oplist.specs.declared.Op.{Op}
 use Rattle.oplist.specs.declared.Op.TheVariants.{AddAssign, MulAssign, FMA}
 use Rattle.oplist.specs.Ops.{Within}
@@ -106,12 +106,12 @@ clears_as s t x (y ∷ ys) e =
     ap₂ (λ (c : ℕ) (os : List Op). entry c y x os) (e 0 (omega arith)) (clears_as s t x ys (λ k h. e (suc k) (omega arith)))
 
 -- a row divided by its entry
-pub scaled-none : (c y : ℕ) → quotient_of 1 c ≡ ZeroDivisor → scaled c y ≡ []
+pub scaled-none : (c y : ℕ) (r : ZeroDivisor) → quotient_of 1 c ≡ Err r → scaled c y ≡ []
 unfolding quotient_of
-scaled-none zero y e = refl
-scaled-none (suc c) y e = let z : ◌≡◌ {A = ℕ} 0 1 = cc in absurd (omega arith)
+scaled-none zero y r e = refl
+scaled-none (suc c) y r e = let z : ◌≡◌ {A = ℕ} 0 1 = cc in absurd (omega arith)
 
-pub scaled-some : (c y : ℕ) (v : Octet) → quotient_of 1 c ≡ Value v → c ≢ 1 → scaled c y ≡ MulAssign y v.value ∷ []
+pub scaled-some : (c y : ℕ) (v : Octet) → quotient_of 1 c ≡ Ok v → c ≢ 1 → scaled c y ≡ MulAssign y v.value ∷ []
 unfolding quotient_of quotient
 scaled-some zero y v e n = let z : ◌≡◌ {A = ℕ} 0 1 = cc in absurd (omega arith)
 scaled-some (suc zero) y v e n = absurd (n refl)
@@ -120,7 +120,7 @@ scaled-some (suc (suc c)) y v e n =
     let k : inverse (suc (suc c)) ≡ v.value = sym (one-mul (inverse (suc (suc c))) (inv_octet (suc (suc c)))) ∙ ap (λ (o : Octet). o.value) h in
     ap (λ (r : ℕ). MulAssign y r ∷ []) k
 
-pub quotient_octet : (c : ℕ) (v : Octet) → quotient_of 1 c ≡ Value v → v.value < 256
+pub quotient_octet : (c : ℕ) (v : Octet) → quotient_of 1 c ≡ Ok v → v.value < 256
 unfolding quotient_of quotient
 quotient_octet zero v e = let z : ◌≡◌ {A = ℕ} 0 1 = cc in absurd (omega arith)
 quotient_octet (suc c) v e =

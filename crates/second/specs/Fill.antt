@@ -4,7 +4,7 @@
 --   entries           the matrix of a binary list and octet rows, which are h from row s on
 --   map_as, picked_as   of a map
 --   entries-before, entries_octet, entries-after   row y, by where it stands to the octet rows
---   Filled, filled-start, filled_next, filled_end   rows filled from the top
+--   Filled, filled_next, filled_end   rows filled from the top
 -- Assumes nothing.
 use Rattle.std.specs.Prelude.{◌≡◌, refl, List, [], ◌∷◌, map, ℕ, suc, ◌+◌, ◌*◌, ◌-◌, ◌≤◌, ◌<◌, length, get_or, set, take, drop}
 use Rattle.std.proofs.Common.{sym, ap, ap₂, ◌∙◌, arith, below_more, lt-ltb, le-ltb, le-leb, get_or-take, get_or-drop, get_or-set_same, get_or-set_other}
@@ -55,9 +55,6 @@ pub record Filled (m l i : ℕ) (f : ℕ → List ℕ) (y : ℕ) (w : List ℕ) 
   pub each : (x : ℕ) → x < y → get_or (store_of m l i w) x [] ≡ f x
 
 module _ {m l i : ℕ} {f : ℕ → List ℕ} where
-  pub filled-start : (w : List ℕ) → Filled m l i f 0 w
-  filled-start w = record { each = λ x h. absurd (omega arith) }
-
   pub filled_next : {y : ℕ} {w w' : List ℕ} → y < m → Filled m l i f y w → store_of m l i w' ≡ set (store_of m l i w) y (f y) → Filled m l i f (y + 1) w'
   filled_next {y} {w} {w'} h a e = record {
     each =

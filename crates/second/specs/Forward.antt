@@ -5,14 +5,14 @@
 --   Eliminated by       what `forward` and `eliminate` promise: what the definition `by` says, whatever the columns' numbers are
 --   Ran, Through, Stopped, through, stopped   what an answer says of the definition: it went through, or stopped at a column
 --   nonzero             a row has a nonzero at a place
---   search_skip, search_here, search_none   the first row with a nonzero, from a place on
+--   search_here, search_none   the first row with a nonzero, from a place on
 --   state, step         a state of the definition, and a turn of its loop beside the journal
 --   Going               where the loop over columns stands
 --   going_start, going_next, going_done, going_stuck   it begins, makes a turn, is over, meets a column without pivot
 --   going_chosen        the rows before place i stay
 -- Assumes nothing.
-use Rattle.std.specs.Prelude.{◌≡◌, refl, ◌≢◌, Bool, not, ℕ, ◌+◌, ◌-◌, ◌≤◌, ◌<◌, eqb, length, get_or, take}
-use Rattle.std.proofs.Common.{sym, ◌∙◌, add-one, eq-eqb, ne_eqb, length-append, take-append-drop, drop_of_length-le, drop-cons, take_at, drop_at, length-take-le}
+use Rattle.std.specs.Prelude.{◌≡◌, refl, ◌≢◌, Bool, not, ℕ, ◌+◌, ◌-◌, ◌≤◌, ◌<◌, eqb, length, get_or, take, Result, Ok, Err, ⊤}
+use Rattle.std.proofs.Common.{sym, ◌∙◌, add-one, ne_eqb, length-append, take-append-drop, drop_of_length-le, drop-cons, take_at, drop_at, length-take-le}
 use Rattle.std.proofs.Math.Path.{ap}
 use mathlib.Core.List.{List, [], ◌∷◌, ◌++◌, append_assoc, append-nil}
 use Rattle.std.proofs.Math.Option.{some, none}
@@ -20,7 +20,7 @@ use native.Mathlib.Omega.{arith}
 use Rattle.std.proofs.Math.ListN.{drop}
 use Rattle.loops.specs.Loop.{At, at-start, at_next, at_end, left_early}
 use Rattle.loops.specs.Room.{notes}
-use Rattle.loops.specs.Out.{Out, Run, done, at as beside}
+use Rattle.loops.specs.Out.{Out, Run, at as beside}
 use Rattle.loops.specs.Way.{Way, go, halt, map_way, bind_way, lay, run_way, run_way_lem, for_way}
 use Rattle.oplist.specs.declared.Op.{Op}
 use Rattle.oplist.specs.Facts.{Order}
@@ -28,9 +28,8 @@ use Rattle.rule.specs.Lists.{filter, head}
 use Rattle.rule.specs.Rule.{without}
 use Rattle.phases.specs.One.{Step, rows_of}
 use Rattle.phases.specs.Two.{at, Second, given, turn, forward}
-use Rattle.tally.specs.Book.{Book, book, note}
-use Rattle.second.specs.declared.Elimination.{Elimination}
-use Rattle.second.specs.declared.Elimination.TheVariants.{Done, Singular}
+use Rattle.tally.specs.Book.{Book, note}
+use Rattle.second.specs.declared.Singular.{Singular}
 use Rattle.second.specs.Store.{store_of}
 use Rattle.second.specs.Step.{Stepped}
 
@@ -44,20 +43,20 @@ sight xs X = record { rows = xs; mat = X }
 abbrev pub view : Second → View
 view s = sight (rows_of s.steps ++ s.left) s.mat
 
-abbrev pub told : Elimination → View → List ℕ → Way (Run Book View)
-told (Done t) v ws = go (beside v (book ws t))
-told (Singular q t) v ws = halt q (beside v (book ws t))
+abbrev pub told : Result ⊤ Singular → View → Book → Way (Run Book View)
+told (Ok _) v g = go (beside v g)
+told (Err s) v g = halt s.place (beside v g)
 
 abbrev pub seen : ℕ → Way (Run Book Second) → Way (Run Book View)
 seen i (go r) = go (beside (view r.st) r.log)
 seen i (halt j r) = halt (i + j) (beside (view r.st) r.log)
 
 pub record Eliminated (by : List ℕ → List ℕ → List (List ℕ) → Way (Out Op Second)) (m l i : ℕ) (w₀ d₀ : List ℕ) (g₀ : Book)
-    (r : Elimination) (w d ws : List ℕ) : Type 0 where
+    (r : Result ⊤ Singular) (w d : List ℕ) (g : Book) : Type 0 where
   pub order : Order m m d
   pub chosen : take i d ≡ take i d₀
   pub is : (cols : List ℕ) → length cols ≡ l - i
-      → told r (sight (drop i d) (store_of m l i w)) ws ≡ seen i (map_way (lay note g₀) (by cols (drop i d₀) (store_of m l i w₀)))
+      → told r (sight (drop i d) (store_of m l i w)) g ≡ seen i (map_way (lay note g₀) (by cols (drop i d₀) (store_of m l i w₀)))
 
 -- the rows by place, the matrix and the journal are those that f leaves
 pub record Ran (g₀ : Book) (f : Out Op Second) (xs : List ℕ) (X : List (List ℕ)) (g : Book) : Type 0 where
@@ -104,9 +103,6 @@ nonzero X k y = not (eqb (at X y k) 0)
 module _ (X : List (List ℕ)) (k : ℕ) (d : List ℕ) (p : ℕ) (h : p < length d) where
   from : drop p d ≡ get_or d p 0 ∷ drop (p + 1) d
   from = drop-cons d p 0 h ∙ ap (λ (n : ℕ). get_or d p 0 ∷ drop n d) (sym (add-one p))
-
-  pub search_skip : at X (get_or d p 0) k ≡ 0 → head (filter (nonzero X k) (drop (p + 1) d)) ≡ head (filter (nonzero X k) (drop p d))
-  search_skip e = rw (from, eq-eqb (at X (get_or d p 0) k) 0 e)
 
   pub search_here : at X (get_or d p 0) k ≢ 0 → head (filter (nonzero X k) (drop p d)) ≡ some (get_or d p 0)
   search_here e = rw (from, ne_eqb (at X (get_or d p 0) k) 0 e)

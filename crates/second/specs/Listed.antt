@@ -1,42 +1,37 @@
 -- A list of words applied to the store.
 --   acts-with        the operation of a word, and then others
 --   Applying         where the loop over words stands
---   applying_start, applying_next, applying_end   it begins, makes a turn, is over
+--   applying_next, applying_end   it makes a turn, is over
 --   applying_within     the next word keeps to the rows
 -- Assumes nothing.
-use Rattle.std.specs.Prelude.{◌≡◌, refl, ℕ, ◌+◌, ◌≤◌, ◌<◌, length, get_or, drop}
+use Rattle.std.specs.Prelude.{◌≡◌, refl, ℕ, ◌+◌, ◌≤◌, ◌<◌, length, get_or, drop, Option, Some, None}
 use Rattle.std.proofs.Common.{sym, subst, ◌∙◌, drop_of_length-le}
 use Rattle.std.proofs.Math.Path.{ap}
 use mathlib.Core.List.{List, []}
 use Rattle.oplist.specs.declared.Op.{Op}
-use Rattle.oplist.specs.declared.Word.{Word}
-use Rattle.oplist.specs.declared.Word.TheVariants.{Known, Unknown}
 use Rattle.oplist.specs.Ops.{Within, Each}
 use Rattle.oplist.specs.Word.{meaning}
 use Rattle.oplist.specs.Listed.{ops_of, with_op, ops_of-drop}
 use Rattle.phases.specs.Two.{acts}
 use Rattle.second.specs.Store.{store_of}
 
-acts-with : (v : Word) (os : List Op) (X : List (List ℕ)) → acts os (acts (with_op v []) X) ≡ acts (with_op v os) X
-acts-with (Known o) os X = refl
-acts-with Unknown os X = refl
+acts-with : (v : Option Op) (os : List Op) (X : List (List ℕ)) → acts os (acts (with_op v []) X) ≡ acts (with_op v os) X
+acts-with (Some o) os X = refl
+acts-with None os X = refl
 
-each_first : (P : Op → Type 0) (v : Word) (os : List Op) → Each P (with_op v os) → Each P (with_op v [])
-each_first P (Known o) os h = (h.0, tt)
-each_first P Unknown os h = tt
+each_first : (P : Op → Type 0) (v : Option Op) (os : List Op) → Each P (with_op v os) → Each P (with_op v [])
+each_first P (Some o) os h = (h.0, tt)
+each_first P None os h = tt
 
-each-rest : (P : Op → Type 0) (v : Word) (os : List Op) → Each P (with_op v os) → Each P os
-each-rest P (Known o) os h = h.1
-each-rest P Unknown os h = h
+each-rest : (P : Op → Type 0) (v : Option Op) (os : List Op) → Each P (with_op v os) → Each P os
+each-rest P (Some o) os h = h.1
+each-rest P None os h = h
 
 pub record Applying (m l i : ℕ) (ws w₀ : List ℕ) (k : ℕ) (w : List ℕ) : Type 0 where
   pub within : Each (Within m) (ops_of (drop k ws))
   pub is : acts (ops_of (drop k ws)) (store_of m l i w) ≡ acts (ops_of ws) (store_of m l i w₀)
 
 module _ {m l i : ℕ} {ws w₀ : List ℕ} where
-  pub applying_start : Each (Within m) (ops_of ws) → Applying m l i ws w₀ 0 w₀
-  applying_start h = record { within = h; is = refl }
-
   module _ {k : ℕ} {w : List ℕ} (a : Applying m l i ws w₀ k w) where
     pub applying_within : k < length ws → Each (Within m) (with_op (meaning (get_or ws k 0)) [])
     applying_within h =

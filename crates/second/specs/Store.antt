@@ -1,5 +1,6 @@
 -- The working matrix in a lent store of m rows of l bytes, of which the places from i on are used.
 --   store_of m l i w     its rows by slab row, of each the entries from place i on
+--   matrix a w         the same of an area
 --   Place m l y q x     x is where place q of row y stands, or would
 --   Sized               the store has m rows of l bytes, and i is a place of it, or its end
 --   Rooms               there is a row of scratch besides, and the rows are few enough for a word
@@ -23,9 +24,13 @@ use Rattle.octets.specs.Rows.{add_row, scale_row, fma_row}
 use Rattle.oplist.specs.declared.Op.TheVariants.{AddAssign, MulAssign, FMA}
 use Rattle.phases.specs.System.{range}
 use Rattle.phases.specs.Two.{at, sums, act}
+use Rattle.second.specs.declared.Area.{Area}
 
 unfoldable pub store_of : ℕ → ℕ → ℕ → List ℕ → List (List ℕ)
 store_of m l i w = map (λ (y : ℕ). part (y * l + i) (l - i) w) (range 0 m)
+
+abbrev pub matrix : Area → List ℕ → List (List ℕ)
+matrix a w = store_of a.m a.l a.i w
 
 pub record Place (m l y q x : ℕ) : Type 0 where
   pub is : x ≡ y * l + q

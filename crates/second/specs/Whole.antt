@@ -10,8 +10,9 @@
 --   eliminated_fair, eliminated_done, eliminated_singular   the same of what the two functions promise
 --   columns_part      the columns from place i on
 --   reduced           phase two, by its parts
+--   reduced_length    phase two keeps the length of the list's room
 -- Assumes nothing.
-use Rattle.std.specs.Prelude.{◌≡◌, refl, List, [], ◌++◌, take, drop}
+use Rattle.std.specs.Prelude.{◌≡◌, refl, List, [], ◌++◌, take, drop, Result, Ok, Err, ⊤}
 use Rattle.std.proofs.Common.{sym, ap₂, subst, ◌∙◌, length-append, length-drop, take_at, take_all}
 use Rattle.std.proofs.Math.Path.{ap}
 use Rattle.std.proofs.Math.Option.{Option, some, none}
@@ -30,10 +31,8 @@ use Rattle.oplist.specs.Facts.{Order}
 use Rattle.rule.specs.Lists.{filter, head}
 use Rattle.phases.specs.One.{rows_of}
 use Rattle.phases.specs.Two.{Second, acts, working, giving, turn, forward, backward}
-use Rattle.tally.specs.declared.Tally.{Tally}
-use Rattle.tally.specs.Book.{Book, book, note, afresh, anew, Fair, fair_notes}
-use Rattle.second.specs.declared.Elimination.{Elimination}
-use Rattle.second.specs.declared.Elimination.TheVariants.{Done, Singular}
+use Rattle.tally.specs.Book.{Book, note, anew, Fair, fair_notes, length-notes}
+use Rattle.second.specs.declared.Singular.{Singular}
 use Rattle.second.specs.Store.{store_of}
 use Rattle.second.specs.Step.{Ready}
 use Rattle.second.specs.Forward.{View, sight, told, seen, through, stopped, nonzero, Eliminated}
@@ -51,19 +50,19 @@ both cols rows X = finished (forward cols rows X)
 abbrev pub begun : (ℕ → ℕ → ℕ) → ℕ → List ℕ → List Op → List (List ℕ)
 begun A m cols os = acts os (working A m cols)
 
-pub record Prepared (m l s h i : ℕ) (bits octs c d w scratch ws : List ℕ) (t : Tally) : Type 0 where
-  pub ready : Ready m l i w scratch d (book ws t)
+pub record Prepared (m l s h i : ℕ) (bits octs c d w scratch : List ℕ) (g : Book) : Type 0 where
+  pub ready : Ready m l i w scratch d g
   pub filling : Filling m l s h i w bits octs (drop i c)
   pub columns : length c ≡ l
-  pub held : t.used ≤ length ws
-  pub within : Each (Within m) (ops_of (take t.used ws))
+  pub held : g.used ≤ length g.words
+  pub within : Each (Within m) (ops_of (take g.used g.words))
 
-pub record Reduced (m l s h i : ℕ) (bits octs c d₀ ws₀ : List ℕ) (t : Tally) (r : Elimination) (w d ws : List ℕ) : Type 0 where
+pub record Reduced (m l s h i : ℕ) (bits octs c d₀ : List ℕ) (g₀ : Book) (r : Result ⊤ Singular) (w d : List ℕ) (g : Book) : Type 0 where
   pub order : Order m m d
   pub chosen : take i d ≡ take i d₀
-  pub is : told r (sight (drop i d) (store_of m l i w)) ws
-      ≡ seen i (map_way (lay note (anew (book ws₀ t)))
-      (both (drop i c) (drop i d₀) (begun (entries m l s h bits octs) m (drop i c) (ops_of (take t.used ws₀)))))
+  pub is : told r (sight (drop i d) (store_of m l i w)) g
+      ≡ seen i (map_way (lay note (anew g₀))
+      (both (drop i c) (drop i d₀) (begun (entries m l s h bits octs) m (drop i c) (ops_of (take g₀.used g₀.words)))))
 
 -- each column so far has a step
 abbrev pub Counted : ℕ → Way (Out Op Second) → Type 0
@@ -116,46 +115,60 @@ module _ (i : ℕ) (g₀ : Book) {xs : List ℕ} {X : List (List ℕ)} {g : Book
       rw t.way (ap₂ (λ (v : View) (j : Book). go (beside v j)) (ap₂ sight t.ran.rows t.ran.mat) next)
 
 -- the answer of `forward`, and what `eliminate` makes of it
-module _ {m l i : ℕ} {w₀ d₀ : List ℕ} {g₀ : Book} {w d ws : List ℕ} where
-  pub eliminated_fair : {t : Tally} {r : Elimination} → r ≡ Done t → Eliminated forward m l i w₀ d₀ g₀ r w d ws → Fair g₀ → (cols : List ℕ) → length cols ≡ l - i → Fair (book ws t)
-  eliminated_fair e p h cols n = done_fair i g₀ (forward cols (drop i d₀) (store_of m l i w₀)) (ap (λ (x : Elimination). told x (sight (drop i d) (store_of m l i w)) ws) (sym e) ∙ p.is cols n) h
+module _ {m l i : ℕ} {w₀ d₀ : List ℕ} {g₀ : Book} {w d : List ℕ} {g : Book} where
+  pub eliminated_fair : {r : Result ⊤ Singular} → r ≡ Ok tt → Eliminated forward m l i w₀ d₀ g₀ r w d g → Fair g₀ → (cols : List ℕ) → length cols ≡ l - i → Fair g
+  eliminated_fair e p h cols n = done_fair i g₀ (forward cols (drop i d₀) (store_of m l i w₀)) (ap (λ (x : Result ⊤ Singular). told x (sight (drop i d) (store_of m l i w)) g) (sym e) ∙ p.is cols n) h
 
-  pub eliminated_singular : {q : ℕ} {t : Tally} {r : Elimination} → r ≡ Singular q t → Eliminated forward m l i w₀ d₀ g₀ r w d ws → Eliminated both m l i w₀ d₀ g₀ (Singular q t) w d ws
+  pub eliminated_singular : {s : Singular} {r : Result ⊤ Singular} → r ≡ Err s → Eliminated forward m l i w₀ d₀ g₀ r w d g → Eliminated both m l i w₀ d₀ g₀ (Err s) w d g
   eliminated_singular e p = record {
     order = p.order;
     chosen = p.chosen;
-    is = λ cols n. singular_then i g₀ (forward cols (drop i d₀) (store_of m l i w₀)) (ap (λ (x : Elimination). told x (sight (drop i d) (store_of m l i w)) ws) (sym e) ∙ p.is cols n);
+    is = λ cols n. singular_then i g₀ (forward cols (drop i d₀) (store_of m l i w₀)) (ap (λ (x : Result ⊤ Singular). told x (sight (drop i d) (store_of m l i w)) g) (sym e) ∙ p.is cols n);
   }
 
-  pub eliminated_done : {t t' : Tally} {ws' : List ℕ} {r : Elimination} → r ≡ Done t → Eliminated forward m l i w₀ d₀ g₀ r w d ws
-      → Cleared (backward (store_of m l i w) (take (l - i) (drop i d)) (l - i)) (book ws t) (book ws' t') → Eliminated both m l i w₀ d₀ g₀ (Done t') w d ws'
+  pub eliminated_done : {g' : Book} {r : Result ⊤ Singular} → r ≡ Ok tt → Eliminated forward m l i w₀ d₀ g₀ r w d g
+      → Cleared (backward (store_of m l i w) (take (l - i) (drop i d)) (l - i)) g g' → Eliminated both m l i w₀ d₀ g₀ (Ok tt) w d g'
   eliminated_done e p c = record {
     order = p.order;
     chosen = p.chosen;
     is =
         λ cols n. done_then i g₀ (forward cols (drop i d₀) (store_of m l i w₀)) (l - i) (subst (λ (k : ℕ). Counted k (forward cols (drop i d₀) (store_of m l i w₀))) n (forward-counted cols (drop i d₀) (store_of m l i w₀)))
-        (ap (λ (x : Elimination). told x (sight (drop i d) (store_of m l i w)) ws) (sym e) ∙ p.is cols n) c;
+        (ap (λ (x : Result ⊤ Singular). told x (sight (drop i d) (store_of m l i w)) g) (sym e) ∙ p.is cols n) c;
   }
 
 pub columns_part : (c : List ℕ) (l i : ℕ) → length c ≡ l → take (l - i) (drop i c) ≡ drop i c
 columns_part c l i e = take_all (l - i) (drop i c) (omega (arith, length-drop i c))
 
-module _ {m l s h i : ℕ} {bits octs c d₀ ws₀ : List ℕ} {t t' : Tally} where
-  pub reduced : (w₁ : List ℕ) {w₂ w d ws : List ℕ} {r : Elimination} → length c ≡ l
+module _ {m l s h i : ℕ} {bits octs c d₀ : List ℕ} (g₀ : Book) {g₁ : Book} where
+  pub reduced : (w₁ : List ℕ) {ws w₂ w d : List ℕ} {g : Book} {r : Result ⊤ Singular} → length c ≡ l
       → store_of m l i w₁ ≡ working (entries m l s h bits octs) m (take (l - i) (drop i c))
-      → store_of m l i w₂ ≡ acts (ops_of (take (t.used - 0) ws₀)) (store_of m l i w₁)
-      → t' ≡ afresh t → Eliminated both m l i w₂ d₀ (book ws₀ t') r w d ws
-      → Reduced m l s h i bits octs c d₀ ws₀ t r w d ws
-  reduced w₁ {w₂} n a b e p =
-      let z : t.used - 0 ≡ t.used = omega arith in
+      → ws ≡ take g₀.used g₀.words → store_of m l i w₂ ≡ acts (ops_of ws) (store_of m l i w₁)
+      → g₁ ≡ anew g₀ → Eliminated both m l i w₂ d₀ g₁ r w d g
+      → Reduced m l s h i bits octs c d₀ g₀ r w d g
+  reduced w₁ {w₂ = w₂} n a q b e p =
       let A : (ℕ → ℕ → ℕ) = entries m l s h bits octs in
-      let f : store_of m l i w₂ ≡ begun A m (drop i c) (ops_of (take t.used ws₀)) =
-      b ∙ ap₂ (λ (k : ℕ) (X : List (List ℕ)). acts (ops_of (take k ws₀)) X) z (a ∙ ap (working A m) (columns_part c l i n))
+      let f : store_of m l i w₂ ≡ begun A m (drop i c) (ops_of (take g₀.used g₀.words)) =
+      b ∙ ap₂ (λ (ks : List ℕ) (X : List (List ℕ)). acts (ops_of ks) X) q (a ∙ ap (working A m) (columns_part c l i n))
       in
       record {
         order = p.order;
         chosen = p.chosen;
         is =
             p.is (drop i c) (length-drop i c ∙ ap (λ (k : ℕ). k - i) n)
-            ∙ ap₂ (λ (u : Tally) (X : List (List ℕ)). seen i (map_way (lay note (book ws₀ u)) (both (drop i c) (drop i d₀) X))) e f;
+            ∙ ap₂ (λ (h : Book) (X : List (List ℕ)). seen i (map_way (lay note h) (both (drop i c) (drop i d₀) X))) e f;
       }
+
+-- the room keeps its length
+pub reduced_length : {m l s h i : ℕ} {bits octs c d₀ : List ℕ} {g₀ : Book} {r : Result ⊤ Singular} {w d : List ℕ} {g : Book}
+    → Reduced m l s h i bits octs c d₀ g₀ r w d g → length g.words ≡ length g₀.words
+reduced_length {m} {l} {s} {h} {i} {bits} {octs} {c} {d₀} {g₀} {r} {w} {d} {g} R = at r R.is
+  where
+    W : Way (Out Op Second)
+    W = both (drop i c) (drop i d₀) (begun (entries m l s h bits octs) m (drop i c) (ops_of (take g₀.used g₀.words)))
+
+    noted : (ops : List Op) → g ≡ notes note (anew g₀) ops → length g.words ≡ length g₀.words
+    noted ops e = ap (λ (b : Book). length b.words) e ∙ length-notes ops (anew g₀)
+
+    at : (x : Result ⊤ Singular) → told x (sight (drop i d) (store_of m l i w)) g ≡ seen i (map_way (lay note (anew g₀)) W) → length g.words ≡ length g₀.words
+    at (Ok _) e = let t = through i (anew g₀) W e in noted t.f.ops t.ran.list
+    at (Err x) e = let t = stopped i (anew g₀) W e in noted t.f.ops t.ran.list

@@ -18,14 +18,14 @@
 --   most_shown      the most bytes of a form that is shown
 --   answer_text     the text of what reading a form answers
 -- Assumes nothing.
-use Rattle.std.specs.Prelude.{ℕ, ◌+◌, ◌/◌, ◌%◌, Bool, true, false, List, [], ◌∷◌, ◌++◌, leb, length}
+use Rattle.std.specs.Prelude.{ℕ, ◌+◌, ◌/◌, ◌%◌, Bool, true, false, List, [], ◌∷◌, ◌++◌, leb, length, Result, Ok, Err}
 use Rattle.oplist.specs.declared.Op.{Op}
 use Rattle.oplist.specs.declared.Op.TheVariants.{AddAssign, MulAssign, FMA}
 use Rattle.oplist.specs.Listed.{ops_of}
-use Rattle.stored.specs.declared.Reading.{Reading}
-use Rattle.stored.specs.declared.Reading.TheVariants.{Kept, BadShape, NoRoom, BadList, BadForm}
+use Rattle.stored.specs.declared.Kept.{Kept}
+use Rattle.stored.specs.declared.Refusal.{Refusal}
 use Rattle.stored.specs.Form.{words_in, order_in}
-use Rattle.stored.specs.Answers.{read_number}
+use Rattle.stored.specs.Answers.{refusal_number}
 
 abbrev pub rows_word : List ℕ
 rows_word = 114 ∷ 111 ∷ 119 ∷ 115 ∷ 32 ∷ []
@@ -103,12 +103,9 @@ unfoldable pub refused_text : ℕ → List ℕ
 refused_text number = named refused_word number ++ newline
 
 -- what is read from the form b, or the refusal
-abbrev pub answer_text : Reading → List ℕ → List ℕ
-answer_text (Kept m l n ordered) b = list_text m l (ops_of (words_in b)) ordered (order_in b)
-answer_text BadShape b = refused_text (read_number BadShape)
-answer_text NoRoom b = refused_text (read_number NoRoom)
-answer_text BadList b = refused_text (read_number BadList)
-answer_text BadForm b = refused_text (read_number BadForm)
+abbrev pub answer_text : Result Kept Refusal → List ℕ → List ℕ
+answer_text (Ok k) b = list_text k.rows k.columns (ops_of (words_in b)) k.ordered (order_in b)
+answer_text (Err e) b = refused_text (refusal_number e)
 
 abbrev pub most_shown : ℕ
 most_shown = 65536

@@ -4,20 +4,19 @@
 --   kept-one                two outcomes that meet `Kept` are equal in what is in use
 --   absent, present         `swap_remove` of a number: it is not in the list, which stays; it is, first at place k, and the last number comes there
 --   kept_out, kept_same     the slice, where the number is found and taken out, and where it is not found
---   kept_put, kept-all      the slice with a number more after the first n; the slice as it is
---   lose_out, lose_in, lose-not   `lose` by the number of ones that is left: none, one, more
---   first_out, first-not    `lose_first` by it: none, some
---   refresh_in, refresh-not `refresh` by it: one, so the row is taken out and then put in; any other number, so it is only taken out
+--   refresh_in, refresh-not `refresh` by the number of ones that is left: one, so the row is taken out and then put in; any other number, so it is only taken out
 --   Picking                 where a loop stands that puts the members of e that pass into a slice: k of e are done, and n are put in
---   pick-start, pick_in, pick_skip, pick_end   it begins, puts one in, leaves one out, is over;  pick-room   there is room for one more
 -- Assumes nothing.
-use Rattle.std.specs.Prelude.{◌≡◌, refl, Bool, true, false, List, [], ◌∷◌, ◌++◌, ℕ, zero, suc, ◌+◌, ◌-◌, ◌<◌, ◌≤◌, length, get_or, set, take, drop, eqb}
-use Rattle.std.proofs.Common.{sym, ap, subst, ◌∙◌, append_assoc, append-nil, arith, add-one, length-set, length-take-le, get_or-take, take-suc-set, take-take, eq-eqb, ne_eqb}
+use Rattle.std.specs.Prelude.{◌≡◌, refl, Bool, true, false, List, [], ◌∷◌, ◌++◌, ℕ, zero, suc, ◌-◌, ◌<◌, ◌≤◌, length, get_or, set, take, drop, eqb, position, Some, None}
+use Rattle.std.proofs.Common.{sym, ap, subst, ◌∙◌, arith, length-set, length-take-le, get_or-take, take-take, eq-eqb, ne_eqb, eqb-true}
 use Rattle.std.proofs.Math.Seq.{take-set-lt}
-use Rattle.loops.specs.Part.{drop-next}
-use Rattle.rule.specs.Lists.{filter, keep}
-use Rattle.grid.specs.Grid.{gone}
-use Rattle.rule.specs.Rule.{bring, last_first, swap_remove, lose, lose_first, refresh}
+use Rattle.std.proofs.lemmas.Bool.{eqb-false}
+use Rattle.std.proofs.lemmas.List.Quantifiers.{position-Some}
+use Rattle.std.proofs.lemmas.List.Sums.{fails_before_first}
+use Rattle.columns.specs.First.{first-position, first_missing}
+use Rattle.columns.specs.Exchange.{is}
+use Rattle.rule.specs.Lists.{filter}
+use Rattle.rule.specs.Rule.{bring, last_first, swap_remove, refresh}
 
 -- the first r of the slice are the list l, and the slice is as long as it was
 pub record Kept (old now : List ℕ) (r : ℕ) (l : List ℕ) : Type 0 where
@@ -58,66 +57,34 @@ present y (a ∷ b ∷ l) (suc k) (suc m) n i h f =
     rw e (ap (λ (t : List ℕ). a ∷ t) (present y (b ∷ l) k m (omega arith) (omega arith) (λ j r. h (suc j) (omega arith)) f))
 
 -- what `take_out` and `put_in` do to the slice
-module _ (s : List ℕ) (n y k : ℕ) (fits : n ≤ length s) (before : (j : ℕ) → j < k → get_or s j 0 ≡ y → ⊥) where
-  pub kept_out : k < n → get_or s k 0 ≡ y → Kept s (set s k (get_or s (n - 1) 0)) (n - 1) (swap_remove y (take n s))
-  kept_out i f =
-      let m : ℕ = n - 1 in
-      let len : length (take n s) ≡ n = length-take-le n s fits in
+module _ (s : List ℕ) (n y : ℕ) (fits : n ≤ length s) where
+  len : length (take n s) ≡ n
+  len = length-take-le n s fits
+
+  pub kept_out : (k : ℕ) → Some k ≡ position (is y) (take n s) → Kept s (set s k (get_or s (n - 1) 0)) (n - 1) (swap_remove y (take n s))
+  kept_out k e =
+      let f = position-Some (is y) (take n s) k 0 (sym e) in
+      let i : k < n = omega (arith, f.0, len) in
       record {
         room = length-set s k (get_or s (n - 1) 0);
         used = omega (arith, length-set s k (get_or s (n - 1) 0));
         holds =
             sym (take-take (n - 1) n (set s k (get_or s (n - 1) 0)) (omega arith))
             ∙ ap (take (n - 1)) (take-set-lt n s k (get_or s (n - 1) 0) i ∙ ap (set (take n s) k) (sym (get_or-take n s (n - 1) 0 (omega arith))))
-            ∙ sym (present y (take n s) k (n - 1) (omega arith) (omega arith)
-            (λ j r e. before j r (sym (get_or-take n s j 0 (omega arith)) ∙ e)) (get_or-take n s k 0 i ∙ f));
+            ∙ sym (present y (take n s) k (n - 1) (omega (arith, len)) f.0 (λ j r. eqb-false (get_or (take n s) j 0) y (f.2 j r)) (eqb-true (get_or (take n s) k 0) y f.1));
       }
 
-  pub kept_same : n ≤ k → Kept s s n (swap_remove y (take n s))
-  kept_same i =
-      let len : length (take n s) ≡ n = length-take-le n s fits in
-      record {
-        room = refl;
-        used = fits;
-        holds = sym (absent y (take n s) (λ j r e. before j (omega arith) (sym (get_or-take n s j 0 (omega arith)) ∙ e)));
-      }
+  pub kept_same : None ≡ position (is y) (take n s) → Kept s s n (swap_remove y (take n s))
+  kept_same e = record {
+    room = refl;
+    used = fits;
+    holds =
+        sym (absent y (take n s)
+        (λ j r. eqb-false (get_or (take n s) j 0) y
+        (fails_before_first (is y) (take n s) j 0 (omega (arith, first_missing (is y) (take n s) e, first-position (is y) (take n s))))));
+  }
 
-pub kept_put : (s : List ℕ) (n y : ℕ) → n < length s → Kept s (set s n y) (n + 1) (take n s ++ (y ∷ []))
-kept_put s n y i = record {
-  room = length-set s n y;
-  used = omega (arith, length-set s n y);
-  holds = rw add-one (take-suc-set s n y i);
-}
-
-pub kept-all : (s : List ℕ) (n : ℕ) → n ≤ length s → Kept s s n (take n s)
-kept-all s n h = record { room = refl; used = h; holds = refl }
-
--- the cases of `lose`, `lose_first` and `refresh`, by the number of ones that is left
 module _ {s t : List ℕ} {r : ℕ} (l : List ℕ) (y k : ℕ) where
-  pub lose_out : k ≡ 0 → Kept s t r (swap_remove y l) → Kept s t r (lose l y k)
-  lose_out e q = rw e q
-
-  pub lose_in : k ≡ 1 → Kept s t r (l ++ (y ∷ [])) → Kept s t r (lose l y k)
-  lose_in e q = rw e q
-
-  pub lose-not : (k ≡ 0 → ⊥) → (k ≡ 1 → ⊥) → Kept s t r l → Kept s t r (lose l y k)
-  lose-not a b q = go k a b
-    where
-      go : (k : ℕ) → (k ≡ 0 → ⊥) → (k ≡ 1 → ⊥) → Kept s t r (lose l y k)
-      go zero a b = absurd (a refl)
-      go (suc zero) a b = absurd (b refl)
-      go (suc (suc k)) a b = q
-
-  pub first_out : k ≡ 0 → Kept s t r (swap_remove y l) → Kept s t r (lose_first l y k)
-  first_out e q = rw e q
-
-  pub first-not : (k ≡ 0 → ⊥) → Kept s t r l → Kept s t r (lose_first l y k)
-  first-not a q = go k a
-    where
-      go : (k : ℕ) → (k ≡ 0 → ⊥) → Kept s t r (lose_first l y k)
-      go zero a = absurd (a refl)
-      go (suc k) a = q
-
   pub refresh-not : (k ≡ 1 → ⊥) → Kept s t r (swap_remove y l) → Kept s t r (refresh l y k)
   refresh-not a q = go k a
     where
@@ -136,38 +103,3 @@ pub record Picking (p : ℕ → Bool) (e s₀ s : List ℕ) (n k : ℕ) : Type 0
   pub few : n ≤ k
   pub within : k ≤ length e
   pub left : take n s ++ filter p (drop k e) ≡ filter p e
-
-pub pick-start : {p : ℕ → Bool} {e s : List ℕ} → Picking p e s s 0 0
-pick-start = record { room = refl; few = omega arith; within = omega arith; left = refl }
-
-module _ {p : ℕ → Bool} {e s₀ s : List ℕ} {n k : ℕ} (h : Picking p e s₀ s n k) where
-  pub pick-room : length e ≤ length s₀ → k < length e → n < length s
-  pick-room f l = omega (arith, h.room, h.few)
-
-  pub pick_in : {t : List ℕ} {r : ℕ} → k < length e → p (get_or e k 0) ≡ true → Kept s t r (take n s ++ (get_or e k 0 ∷ [])) → r ≡ n + 1 → Picking p e s₀ t r (k + 1)
-  pick_in {t} {r} l q g m = record {
-    room = g.room ∙ h.room;
-    few = omega (arith, h.few);
-    within = omega arith;
-    left =
-        ap (λ (z : List ℕ). z ++ filter p (drop (k + 1) e)) g.holds ∙ append_assoc (take n s) (get_or e k 0 ∷ []) (filter p (drop (k + 1) e))
-        ∙ ap (λ (b : Bool). take n s ++ keep b (get_or e k 0) (filter p (drop (k + 1) e))) (sym q)
-        ∙ sym (ap (λ (z : List ℕ). take n s ++ filter p z) (drop-next e k l)) ∙ h.left;
-  }
-
-  pub pick_skip : k < length e → p (get_or e k 0) ≡ false → Picking p e s₀ s n (k + 1)
-  pick_skip l q = record {
-    room = h.room;
-    few = omega (arith, h.few);
-    within = omega arith;
-    left =
-        ap (λ (b : Bool). take n s ++ keep b (get_or e k 0) (filter p (drop (k + 1) e))) (sym q)
-        ∙ sym (ap (λ (z : List ℕ). take n s ++ filter p z) (drop-next e k l)) ∙ h.left;
-  }
-
-  pub pick_end : length e ≤ length s₀ → length e ≤ k → Kept s₀ s n (filter p e)
-  pick_end f l = record {
-    room = h.room;
-    used = omega (arith, h.room, h.few, h.within);
-    holds = sym (append-nil (take n s)) ∙ sym (ap (λ (z : List ℕ). take n s ++ filter p z) (gone e k l)) ∙ h.left;
-  }

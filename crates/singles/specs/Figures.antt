@@ -13,12 +13,12 @@
 --   lose-room, renew-room   there is room for the row that is put in
 --   lose-done, first_done, renew-done   the change of a row, by what the slice of the list then holds
 --   Going                where a loop over the rows ys stands: k of them are done
---   going_start, going_hit, going_skip, going_end   it begins, changes a row, skips one, is over;  at_row   the next row has a figure
+--   going_hit, going_skip, going_end   it changes a row, skips one, is over
 --   Leaving              where a loop over the columns qs stands: k of them have left V
---   leaving_start, leaving_next, leaving_end   it begins, makes a turn, is over;  leaving_under   the rows have figures
+--   leaving_next, leaving_end   it makes a turn, is over
 --   step-one, step_more  a step, by its parts: only the pivot leaves V; other columns leave it too
---   head-each, tail_each what holds of each number of x ∷ ys holds of x, and of each of ys
---   rows_tail, under_tail, under_head   so with rows that lie in the matrix, and with numbers below n
+--   tail_each            what holds of each number of x ∷ ys holds of each of ys
+--   rows_tail, under_tail   so with rows that lie in the matrix, and with numbers below n
 --   under_still          numbers below n are below a number equal to n
 -- Assumes nothing.
 use Rattle.std.specs.Prelude.{◌≡◌, refl, Bool, true, false, cond, ℕ, zero, suc, ◌+◌, ◌-◌, ◌*◌, ◌≤◌, ◌<◌, get_or, set, take, drop, eqb}
@@ -250,9 +250,6 @@ pub record Going (p : ℕ → Bool) (g : ℕ → Fig → Fig) (ys : List ℕ) (o
   pub sound : Sound ones s n
   pub left : each p g (drop k ys) (fig ones s n) ≡ each p g ys (fig ones₀ s₀ n₀)
 
-pub going_start : {p : ℕ → Bool} {g : ℕ → Fig → Fig} {ys ones s : List ℕ} {n : ℕ} → Sound ones s n → Going p g ys ones s n 0 ones s n
-going_start h = record { within = omega arith; same = refl; room = refl; sound = h; left = refl }
-
 module _ {p : ℕ → Bool} {g : ℕ → Fig → Fig} {ys ones₀ s₀ ones s : List ℕ} {n₀ k n : ℕ} (h : Going p g ys ones₀ s₀ n₀ k ones s n) where
   turn : k < length ys → each p g (drop k ys) (fig ones s n) ≡ each p g (drop (k + 1) ys) (cond (p (get_or ys k 0)) (g (get_or ys k 0) (fig ones s n)) (fig ones s n))
   unfolding each
@@ -276,10 +273,6 @@ module _ {p : ℕ → Bool} {g : ℕ → Fig → Fig} {ys ones₀ s₀ ones s : 
     left = ap (each p g (drop (k + 1) ys)) (ap (λ (b : Bool). cond b (g (get_or ys k 0) (fig ones s n)) (fig ones s n)) (sym e)) ∙ sym (turn l) ∙ h.left;
   }
 
-  -- the next row has a figure
-  pub at_row : Under (length ones₀) ys → k < length ys → get_or ys k 0 < length ones
-  at_row u l = omega (arith, u.at k l, h.same)
-
   pub going_end : length ys ≤ k → Done (each p g ys) ones₀ s₀ n₀ ones s n
   unfolding each
   going_end l = record { same = h.same; room = h.room; sound = h.sound; is = sym (ap (λ (z : List ℕ). each p g z (fig ones s n)) (gone ys k l)) ∙ h.left }
@@ -292,9 +285,6 @@ pub record Leaving (row : ℕ → ℕ → Bool) (qs ys : List ℕ) (ones₀ s₀
   pub sound : Sound ones s n
   pub left : drop_cols row (drop k qs) ys (fig ones s n) ≡ drop_cols row qs ys (fig ones₀ s₀ n₀)
 
-pub leaving_start : {row : ℕ → ℕ → Bool} {qs ys ones s : List ℕ} {n : ℕ} → Sound ones s n → Leaving row qs ys ones s n 0 ones s n
-leaving_start h = record { within = omega arith; same = refl; room = refl; sound = h; left = refl }
-
 module _ {row : ℕ → ℕ → Bool} {qs ys ones₀ s₀ ones s : List ℕ} {n₀ k n : ℕ} (h : Leaving row qs ys ones₀ s₀ n₀ k ones s n) where
   pub leaving_next : {ones' s' : List ℕ} {n' : ℕ} → k < length qs → Done (drop_col row (get_or qs k 0) ys) ones s n ones' s' n' → Leaving row qs ys ones₀ s₀ n₀ (k + 1) ones' s' n'
   unfolding drop_cols
@@ -305,10 +295,6 @@ module _ {row : ℕ → ℕ → Bool} {qs ys ones₀ s₀ ones s : List ℕ} {n�
     sound = d.sound;
     left = ap (drop_cols row (drop (k + 1) qs) ys) d.is ∙ sym (ap (λ (z : List ℕ). drop_cols row z ys (fig ones s n)) (drop-next qs k l)) ∙ h.left;
   }
-
-  -- the rows have figures
-  pub leaving_under : Under (length ones₀) ys → Under (length ones) ys
-  leaving_under u = record { at = λ j l. omega (arith, u.at j l, h.same) }
 
   pub leaving_end : length qs ≤ k → Done (drop_cols row qs ys) ones₀ s₀ n₀ ones s n
   unfolding drop_cols
@@ -343,17 +329,11 @@ module _ (row : ℕ → ℕ → Bool) (x : ℕ) (ys e : List ℕ) (pivot : ℕ) 
 pub tail_each : (P : ℕ → Type 0) {x : ℕ} {ys e : List ℕ} → e ≡ x ∷ ys → ((k : ℕ) → k < length e → P (get_or e k 0)) → (k : ℕ) → k < length ys → P (get_or ys k 0)
 tail_each P {x} {ys} {e} l h k i = (subst (λ (z : List ℕ). (k : ℕ) → k < length z → P (get_or z k 0)) l h) (suc k) (omega arith)
 
-pub head-each : (P : ℕ → Type 0) {x : ℕ} {ys e : List ℕ} → e ≡ x ∷ ys → ((k : ℕ) → k < length e → P (get_or e k 0)) → P x
-head-each P {x} {ys} {e} l h = (subst (λ (z : List ℕ). (k : ℕ) → k < length z → P (get_or z k 0)) l h) 0 (omega arith)
-
 pub rows_tail : {l n x : ℕ} {ys e : List ℕ} → e ≡ x ∷ ys → Rows l n e → Rows l n ys
 rows_tail {l} {n} q h = record { at = tail_each (λ y. y * l + l ≤ n) q h.at }
 
 pub under_tail : {n x : ℕ} {ys e : List ℕ} → e ≡ x ∷ ys → Under n e → Under n ys
 under_tail {n} q h = record { at = tail_each (λ y. y < n) q h.at }
-
-pub under_head : {n x : ℕ} {ys e : List ℕ} → e ≡ x ∷ ys → Under n e → x < n
-under_head {n} q h = head-each (λ y. y < n) q h.at
 
 -- the rows still have figures
 pub under_still : {n m : ℕ} {ys : List ℕ} → m ≡ n → Under n ys → Under m ys

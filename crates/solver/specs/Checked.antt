@@ -5,16 +5,15 @@
 --   at-shape, at_entry, at_room, at-run   the definition, test by test
 --   at_count, at_table     the definition, by the table
 -- Assumes nothing.
-use Rattle.std.specs.Prelude.{◌≡◌, Bool, true, false, List, [], ℕ, ◌+◌, ◌*◌, ◌≤◌, leb, eqb, length}
+use Rattle.std.specs.Prelude.{◌≡◌, Bool, true, false, List, [], ℕ, ◌+◌, ◌*◌, ◌≤◌, leb, eqb, length, Ok, Err}
 use Rattle.std.proofs.Common.{arith, leb-true, eqb-true}
 use Rattle.bounds.specs.Bounds.{most_rows, most_bytes, most_ops}
-use Rattle.params.specs.Params.{params_of}
+use Rattle.params.specs.Params.{params_of, bad_count}
 use Rattle.params.specs.Answers.{sized}
 use Rattle.params.specs.declared.Sizes.{Sizes}
-use Rattle.params.specs.declared.Parameters.TheVariants.{Found, BadCount as NoEntry}
 use Rattle.oplist.specs.Facts.{and_left, and_right}
-use Rattle.call.specs.declared.Shape.{Shape}
-use Rattle.answers.specs.declared.Answer.TheVariants.{BadCount, BadShape, BadEntry, NoRoom}
+use Rattle.grid.specs.declared.shapes.Shape.{Shape}
+use Rattle.answers.specs.declared.Refusal.TheVariants.{BadCount, BadShape, BadEntry, NoRoom}
 use Rattle.call.specs.Call.{Octets, octets_in, rows_in, Working, Buffers, buffers, outcome, shaped, entered, roomy, roomy_for, shape_of, told, ended, checked, call_of}
 use Rattle.ending.specs.Ran.{Posed}
 use Rattle.running.specs.Lent.{Roomed}
@@ -56,12 +55,12 @@ shaped_facts l h m t list bits octets slab e =
       slab_size = eqb-true slab (m * t) (and_right (eqb octets (h * l)) _ g);
     }
 
-pub tabled_given : (k : ℕ) (g : Sizes) → params_of k ≡ Found g → Tabled g g.h
+pub tabled_given : (k : ℕ) (g : Sizes) → params_of k ≡ Ok g → Tabled g g.h
 tabled_given k g e =
     let s = sized k g e in
     record { some = s.some_l; most = s.most_l; rows_fit = s.shh_upto_l; cols_fit = omega (arith, s.w-below_l) }
 
-pub tabled_none : (k : ℕ) (g : Sizes) → params_of k ≡ Found g → Tabled g 0
+pub tabled_none : (k : ℕ) (g : Sizes) → params_of k ≡ Ok g → Tabled g 0
 tabled_none k g e =
     let s = sized k g e in
     record { some = s.some_l; most = s.most_l; rows_fit = omega (arith, s.shh_upto_l); cols_fit = omega (arith, s.w-below_l) }
@@ -122,15 +121,15 @@ module _ (g : Sizes) (h m t : ℕ) (bits octets : List ℕ) (b : Buffers) where
   abbrev shape : Bool
   shape = shaped g.l h m t (length b.list) (length bits) (length octets) (length b.slab)
 
-  pub at-shape : shape ≡ false → outcome BadShape b ≡ checked g h m t bits octets b
+  pub at-shape : shape ≡ false → outcome (Err BadShape) b ≡ checked g h m t bits octets b
   unfolding checked
   at-shape e = rw e
 
-  pub at_entry : shape ≡ true → entered g.l g.s h bits ≡ false → outcome BadEntry b ≡ checked g h m t bits octets b
+  pub at_entry : shape ≡ true → entered g.l g.s h bits ≡ false → outcome (Err BadEntry) b ≡ checked g h m t bits octets b
   unfolding checked
   at_entry e f = rw (e, f)
 
-  pub at_room : shape ≡ true → entered g.l g.s h bits ≡ true → roomy_for g.l m b ≡ false → outcome NoRoom b ≡ checked g h m t bits octets b
+  pub at_room : shape ≡ true → entered g.l g.s h bits ≡ true → roomy_for g.l m b ≡ false → outcome (Err NoRoom) b ≡ checked g h m t bits octets b
   unfolding checked
   at_room e f i = rw (e, f, i)
 
@@ -140,10 +139,10 @@ module _ (g : Sizes) (h m t : ℕ) (bits octets : List ℕ) (b : Buffers) where
   at-run e f i = rw (e, f, i)
 
 module _ (k m t : ℕ) (bits : List ℕ) (o : Octets) (b : Buffers) where
-  pub at_count : params_of k ≡ NoEntry → outcome BadCount b ≡ call_of k m t bits o b
+  pub at_count : params_of k ≡ bad_count → outcome (Err BadCount) b ≡ call_of k m t bits o b
   unfolding call_of
   at_count e = rw e
 
-  pub at_table : (g : Sizes) → params_of k ≡ Found g → checked g (rows_in o g) m t bits (octets_in o) b ≡ call_of k m t bits o b
+  pub at_table : (g : Sizes) → params_of k ≡ Ok g → checked g (rows_in o g) m t bits (octets_in o) b ≡ call_of k m t bits o b
   unfolding call_of
   at_table g e = rw e

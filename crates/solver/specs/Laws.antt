@@ -19,7 +19,7 @@
 --   singular_never       7: and no list of operations reduces the matrix
 -- A call that is refused with 1 to 4 changes nothing: refused_same, in Taken.
 -- Assumes nothing.
-use Rattle.std.specs.Prelude.{◌≡◌, ◌≢◌, ◌↔◌, Bool, cond, ℕ, ◌+◌, ◌*◌, ◌≤◌, ◌<◌, eqb, get_or}
+use Rattle.std.specs.Prelude.{◌≡◌, ◌≢◌, ◌↔◌, Bool, cond, ℕ, ◌+◌, ◌*◌, ◌≤◌, ◌<◌, eqb, get_or, Ok, Err}
 use Rattle.std.proofs.Math.Path.{refl, sym, ap, subst, fun_ext}
 use Rattle.std.proofs.Common.{◌∙◌, get_or-take}
 use Rattle.std.proofs.Math.Bool.{true, false}
@@ -30,9 +30,7 @@ use borrow.Author.Tests.{leb-true, leb-false, le-leb, eq-eqb, eqb-true}
 use Rattle.std.proofs.Math.Dec.{leb}
 use Rattle.std.proofs.Math.ListN.{length, take, length-map}
 use Rattle.std.proofs.Math.Seq.{length-take-le}
-use Rattle.params.specs.Params.{params_of}
-use Rattle.params.specs.declared.Parameters.{Parameters}
-use Rattle.params.specs.declared.Parameters.TheVariants.{Found, BadCount as NoEntry}
+use Rattle.params.specs.Params.{params_of, Parameters}
 use Rattle.oplist.specs.declared.Op.{Op}
 use Rattle.oplist.specs.declared.Op.TheVariants.{AddAssign, MulAssign, FMA}
 use Rattle.oplist.specs.Ops.{Nonzero, each_map}
@@ -48,7 +46,7 @@ use Rattle.algebra.specs.Flat.{Bytes, acts}
 use Rattle.algebra.proofs.Flat.{length-acts, undo-acts}
 use Rattle.algebra.specs.Slab.{Source, through}
 use Rattle.algebra.proofs.Slab.{solved, only, report}
-use Rattle.symbol_slab.specs.declared.Answer.TheVariants.{InPlace}
+use Rattle.symbol_slab.specs.declared.Place.TheVariants.{InPlace}
 use Rattle.symbol_slab.specs.Replay.{read_by, slab_shaped, checked as slabChecked, outcome as slabbed, replayed, undone}
 use Rattle.rule.specs.Permitted.{Permitted}
 use Rattle.rule.specs.Rule.{chosen}
@@ -61,11 +59,10 @@ use Rattle.phases.specs.Means.{Nulled, Blank}
 use Rattle.phases.specs.Shape.{First, Shapes}
 use Rattle.phases.proofs.Shape.{first-shape, shapes}
 use Rattle.phases.proofs.Answers.{solved_reduces, singular_nulled}
-use Rattle.phases.specs.Answers as Ends
 use Rattle.phases.proofs.Answers as Endsp
 use Rattle.answers.specs.declared.Report.{Report}
-use Rattle.answers.specs.declared.Answer.{Answer}
-use Rattle.answers.specs.declared.Answer.TheVariants.{BadCount, BadShape, BadEntry, NoRoom}
+use Rattle.answers.specs.Answers.{Answer}
+use Rattle.answers.specs.declared.Refusal.TheVariants.{BadCount, BadShape, BadEntry, NoRoom}
 use Rattle.answers.specs.Answers.{number_of, no_report, report_in, report_none}
 use Rattle.call.specs.Over.{over, length_over, take-over}
 use Rattle.call.specs.Call.{Octets, octets_in, rows_in, Working, Buffers, buffers, Outcome, outcome, shaped, entered, roomy_for, ended, shape_of, told, checked, counted, call_of}
@@ -93,16 +90,16 @@ call_blind k m t bits o slab slab' list order vector w e = by-table (params_of k
     same a = record { answer = refl; list = refl; order = refl; vector = refl; rooms = refl }
 
     tests : (p q r : Bool) (a : Told)
-        → Alike (cond p (cond q (cond r (ended t (buffers slab list order vector w) a) (outcome NoRoom (buffers slab list order vector w))) (outcome BadEntry (buffers slab list order vector w))) (outcome BadShape (buffers slab list order vector w)))
-        (cond p (cond q (cond r (ended t (buffers slab' list order vector w) a) (outcome NoRoom (buffers slab' list order vector w))) (outcome BadEntry (buffers slab' list order vector w))) (outcome BadShape (buffers slab' list order vector w)))
-    tests false q r a = same BadShape
-    tests true false r a = same BadEntry
-    tests true true false a = same NoRoom
+        → Alike (cond p (cond q (cond r (ended t (buffers slab list order vector w) a) (outcome (Err NoRoom) (buffers slab list order vector w))) (outcome (Err BadEntry) (buffers slab list order vector w))) (outcome (Err BadShape) (buffers slab list order vector w)))
+        (cond p (cond q (cond r (ended t (buffers slab' list order vector w) a) (outcome (Err NoRoom) (buffers slab' list order vector w))) (outcome (Err BadEntry) (buffers slab' list order vector w))) (outcome (Err BadShape) (buffers slab' list order vector w)))
+    tests false q r a = same (Err BadShape)
+    tests true false r a = same (Err BadEntry)
+    tests true true false a = same (Err NoRoom)
     tests true true true a = record { answer = refl; list = refl; order = refl; vector = refl; rooms = refl }
 
     by-table : (p : Parameters) → Alike (counted p m t bits o (buffers slab list order vector w)) (counted p m t bits o (buffers slab' list order vector w))
-    by-table NoEntry = same BadCount
-    by-table (Found g) =
+    by-table (Err _) = same (Err BadCount)
+    by-table (Ok g) =
         rw e (tests (shaped g.l (rows_in o g) m t (length list) (length bits) (length (octets_in o)) (length slab')) (entered g.l g.s (rows_in o g) bits)
         (roomy_for g.l m (buffers slab list order vector w)) (told (shape_of g (rows_in o g) m) bits (octets_in o) (length list)))
 
@@ -257,11 +254,11 @@ module _ (k m t : ℕ) (bits : List ℕ) (o : Octets) (b : Buffers) where
 
       module _ (hs : Bytes b.slab) where
         pub undo_restores : (f : Bool) (xs : List ℕ) → (f ≡ true → xs ≡ ordered k after)
-            → undone m (columns_in k) t (listed after) f xs after.buffers.slab ≡ slabbed InPlace b.slab
+            → undone m (columns_in k) t (listed after) f xs after.buffers.slab ≡ slabbed (Ok InPlace) b.slab
         unfolding undone slabChecked
         undo_restores f xs h =
             rw (shape_fine_lem after.buffers.slab size-after, list_fine_lem, order_fine_lem f xs h, can)
-            (ap (slabbed InPlace) (ap (λ (os : List Op). acts t (undo os) after.buffers.slab) says ∙ ap (acts t (undo said.list)) slab_is
+            (ap (slabbed (Ok InPlace)) (ap (λ (os : List Op). acts t (undo os) after.buffers.slab) says ∙ ap (acts t (undo said.list)) slab_is
             ∙ undo-acts m t (facts T).some_bytes said.list b.slab (facts T).slab_size hs reduces.good reduces.within))
 
         -- C, L rows of T bytes, is a set that the matrix makes the received symbols of

@@ -9,23 +9,21 @@
 --   tabled, facts, posed, roomed, fit   what its sizes, its lengths, its system, its rooms and its matrix have
 --   order-at, vector_at  what stands in order and vector after it
 -- Assumes nothing.
-use Rattle.std.specs.Prelude.{◌≡◌, Bool, cond, List, ℕ, ◌≤◌, length}
+use Rattle.std.specs.Prelude.{◌≡◌, Bool, cond, List, ℕ, ◌≤◌, length, Ok, Err}
 use Rattle.std.proofs.Math.Path.{refl, sym, ap, subst}
 use Rattle.std.proofs.Common.{◌∙◌}
 use Rattle.std.proofs.Math.Bool.{true, false}
 use native.Mathlib.Omega.{arith}
 use Rattle.std.proofs.Math.ListN.{get_or}
-use Rattle.params.specs.Params.{params_of}
+use Rattle.params.specs.Params.{params_of, Parameters}
 use Rattle.params.specs.declared.Sizes.{Sizes}
-use Rattle.params.specs.declared.Parameters.{Parameters}
-use Rattle.params.specs.declared.Parameters.TheVariants.{Found, BadCount as NoEntry}
 use Rattle.algebra.specs.Flat.{Bytes}
 use Rattle.phases.specs.System.{Shape as Defined, combined}
 use Rattle.phases.specs.Run.{Run, defined, Answer as Told, answer}
 use Rattle.phases.specs.Fit.{Fit}
-use Rattle.answers.specs.declared.Answer.TheVariants.{BadShape, BadEntry, NoRoom}
+use Rattle.answers.specs.declared.Refusal.TheVariants.{BadShape, BadEntry, NoRoom}
 use Rattle.answers.specs.Answers.{number_of}
-use Rattle.call.specs.declared.Shape.{Shape}
+use Rattle.grid.specs.declared.shapes.Shape.{Shape}
 use Rattle.call.specs.Over.{at-over}
 use Rattle.call.specs.Call.{Octets, octets_in, rows_in, Buffers, Outcome, outcome, shaped, entered, roomy_for, ended, shape_of, told, checked, counted, call_of}
 use Rattle.call.specs.Called.{answer-number}
@@ -46,7 +44,7 @@ refused_same k m t bits o b = by-table (params_of k)
     Keeps : Outcome → Type 0
     Keeps x = Refused x → x.buffers ≡ b
 
-    tests : (p q r : Bool) (x : Outcome) → Keeps x → Keeps (cond p (cond q (cond r x (outcome NoRoom b)) (outcome BadEntry b)) (outcome BadShape b))
+    tests : (p q r : Bool) (x : Outcome) → Keeps x → Keeps (cond p (cond q (cond r x (outcome (Err NoRoom) b)) (outcome (Err BadEntry) b)) (outcome (Err BadShape) b))
     tests false q r x f h = refl
     tests true false r x f h = refl
     tests true true false x f h = refl
@@ -56,14 +54,14 @@ refused_same k m t bits o b = by-table (params_of k)
     ran room r h = absurd (answer_late room r (rw (answer-number room r) at h.0) (rw (answer-number room r) at h.1))
 
     by-table : (p : Parameters) → Keeps (counted p m t bits o b)
-    by-table NoEntry h = refl
-    by-table (Found g) h =
+    by-table (Err _) h = refl
+    by-table (Ok g) h =
         tests (shaped g.l (rows_in o g) m t (length b.list) (length bits) (length (octets_in o)) (length b.slab)) (entered g.l g.s (rows_in o g) bits)
         (roomy_for g.l m b) _ (ran (length b.list) (defined (shape_of g (rows_in o g) m) (combined (shape_of g (rows_in o g) m) bits (octets_in o)) false)) h
 
 abbrev sizes_by : Parameters → Sizes
-sizes_by (Found g) = g
-sizes_by NoEntry = record { k = 0; j = 0; s = 0; h = 0; w = 0; l = 0; p = 0 }
+sizes_by (Ok g) = g
+sizes_by (Err _) = record { k = 0; j = 0; s = 0; h = 0; w = 0; l = 0; p = 0 }
 
 abbrev pub sizes_in : ℕ → Sizes
 sizes_in k = sizes_by (params_of k)
@@ -89,7 +87,7 @@ abbrev pub said_in : (k m : ℕ) → List ℕ → Octets → ℕ → Told
 said_in k m bits o room = told (shape_in k m o) bits (octets_in o) room
 
 pub record Taken (k m t : ℕ) (bits : List ℕ) (o : Octets) (b : Buffers) : Type 0 where
-  pub table : params_of k ≡ Found (sizes_in k)
+  pub table : params_of k ≡ Ok (sizes_in k)
   pub shape : shaped (columns_in k) (rows_in o (sizes_in k)) m t (length b.list) (length bits) (length (octets_in o)) (length b.slab) ≡ true
   pub entries : entered (columns_in k) (sizes_in k).s (rows_in o (sizes_in k)) bits ≡ true
   pub rooms : roomy_for (columns_in k) m b ≡ true
@@ -99,14 +97,14 @@ module _ (k m t : ℕ) (bits : List ℕ) (o : Octets) (b : Buffers) where
   unfolding call_of checked
   taken-by = by-table (params_of k) refl
     where
-      tests : (g : Sizes) → params_of k ≡ Found g → (x : Outcome) (p q r : Bool)
+      tests : (g : Sizes) → params_of k ≡ Ok g → (x : Outcome) (p q r : Bool)
           → shaped g.l (rows_in o g) m t (length b.list) (length bits) (length (octets_in o)) (length b.slab) ≡ p
           → entered g.l g.s (rows_in o g) bits ≡ q → roomy_for g.l m b ≡ r
-          → (Refused (cond p (cond q (cond r x (outcome NoRoom b)) (outcome BadEntry b)) (outcome BadShape b)) → ⊥) → Taken k m t bits o b
+          → (Refused (cond p (cond q (cond r x (outcome (Err NoRoom) b)) (outcome (Err BadEntry) b)) (outcome (Err BadShape) b)) → ⊥) → Taken k m t bits o b
       tests g z x true true true e f i n =
           let y : g ≡ sizes_in k = sym (ap sizes_by z) in
           record {
-            table = z ∙ ap Found y;
+            table = z ∙ ap Ok y;
             shape =
                 subst (λ (c : Sizes). shaped c.l (rows_in o c) m t (length b.list) (length bits) (length (octets_in o)) (length b.slab) ≡ true) y e;
             entries = subst (λ (c : Sizes). entered c.l c.s (rows_in o c) bits ≡ true) y f;
@@ -117,8 +115,8 @@ module _ (k m t : ℕ) (bits : List ℕ) (o : Octets) (b : Buffers) where
       tests g z x false q r e f i n = absurd (n (omega arith, omega arith))
 
       by-table : (p : Parameters) → params_of k ≡ p → (Refused (counted p m t bits o b) → ⊥) → Taken k m t bits o b
-      by-table NoEntry z n = absurd (n (omega arith, omega arith))
-      by-table (Found g) z n =
+      by-table (Err _) z n = absurd (n (omega arith, omega arith))
+      by-table (Ok g) z n =
           tests g z (ended t b (told (shape_of g (rows_in o g) m) bits (octets_in o) (length b.list)))
           (shaped g.l (rows_in o g) m t (length b.list) (length bits) (length (octets_in o)) (length b.slab))
           (entered g.l g.s (rows_in o g) bits) (roomy_for g.l m b) refl refl refl n

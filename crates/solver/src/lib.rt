@@ -1,143 +1,88 @@
 // The solver: a system in; its operation list, its order and the solved slab out.
 #![tactic(auto)]
 
-ghost use Rattle.std.specs.Prelude.{◌≡◌};
-ghost use Rattle.call.specs.Call.{rows_of, working, buffers, outcome};
+ghost use Rattle.std.specs.Prelude.{◌≡◌, option_map};
+ghost use Rattle.call.specs.Call.{rows_of, buffers, outcome};
 ghost use Rattle.call.specs.Called.{Called};
+ghost use Rattle.call.specs.Space.{working_of, Kept};
 ghost use Rattle.solver.specs.Judge.{if_given, judged};
 
-pub use answers::{Answer, Counts, Display, Need, Report, Rooms, needs, number, shown};
-pub use call::OctetRows;
-use call::Shape;
-use params::Parameters;
-
-// The lengths of what is lent to a call, but for the binary matrix.
-#[derive(Clone, Copy)]
-struct Lengths {
-    octets: usize,
-    slab: usize,
-    list: usize,
-    order: usize,
-    vector: usize,
-    work: usize,
-    scratch: usize,
-    columns: usize,
-    rows: usize,
-    ones: usize,
-    degrees: usize,
-    singles: usize,
-    labels: usize,
-    sizes: usize,
-}
-
-// A call is refused, or taken with a shape and so many bytes of octet rows.
-#[derive(Clone, Copy)]
-enum Verdict {
-    Refused(Answer),
-    Taken(Shape, usize),
-}
+pub use answers::{Answer, Counts, Display, Refusal, Report, Rooms, needs, number, shown};
+use call::Lengths;
+pub use call::Workspace;
+use grid::Shape;
 
 // A number that counts only where octet rows are given.
-fn if_given(which: OctetRows, n: usize) -> usize
-    ensures { result ≡ if_given which n }
+#[tactic(auto, unfolding(crate::specs::Judge::if_given))]
+fn if_given(given: bool, n: usize) -> usize
+    ensures { result ≡ if_given given n }
 {
-    match which {
-        OctetRows::Given => n,
-        OctetRows::Absent => 0,
-    }
+    if given { n } else { 0 }
 }
 
-// The tests of a call, which need no more of its buffers than their lengths.
-fn judge(k: usize, m: usize, t: usize, bits: &[u8], which: OctetRows, n: Lengths) -> Verdict
-    ensures { result ≡ judged k m t bits.now which n }
+// The shape of a call that is taken, or why it is refused. The tests need no more of its buffers than their lengths.
+fn judge(
+    k: usize,
+    m: usize,
+    t: usize,
+    bits: &[u8],
+    given: bool,
+    n: Lengths,
+) -> Result<Shape, Refusal>
+    ensures { result ≡ judged k m t bits.now given n }
 {
-    match params::params(k) {
-        Parameters::BadCount => Verdict::Refused(Answer::BadCount),
-        Parameters::Found(g) => {
-            let l = g.l;
-            let s = g.s;
-            let w = g.w;
-            let h = if_given(which, g.h);
-            let given = if_given(which, n.octets);
-            if !call::checks::is_shaped(l, h, m, t, n.list, bits.len(), given, n.slab) {
-                return Verdict::Refused(Answer::BadShape);
-            }
-            if !call::checks::is_entered(bits, m, l, s, h) {
-                return Verdict::Refused(Answer::BadEntry);
-            }
-            let need = answers::rooms_for(m, l);
-            if !call::checks::has_room(
-                need, n.order, n.vector, n.work, n.scratch, n.columns, n.rows, n.ones, n.degrees,
-                n.singles, n.labels, n.sizes,
-            ) {
-                return Verdict::Refused(Answer::NoRoom);
-            }
-            Verdict::Taken(Shape { m, l, s, h, w }, given)
-        }
+    let g = params::params(k)?;
+    let l = g.l;
+    let s = g.s;
+    let h = if_given(given, g.h);
+    if !call::checks::is_shaped(l, h, m, t, bits.len(), n) {
+        return Err(Refusal::BadShape);
     }
+    if !call::checks::is_entered(bits, m, l, s, h) {
+        return Err(Refusal::BadEntry);
+    }
+    if !call::checks::has_room(answers::rooms_for(m, l), n) {
+        return Err(Refusal::NoRoom);
+    }
+    let w = g.w;
+    Ok(Shape { m, l, s, h, w })
 }
 
 // Solves a system of m rows of t bytes for k source symbols: the binary matrix by rows, and the octet rows, which stand in rows S to S + H - 1
-// where they are given.
+// where they are given; where they are not, every row is binary.
 pub fn solve(
     k: usize,
     m: usize,
     t: usize,
     bits: &[u8],
-    which: OctetRows,
-    octets: &[u8],
+    octets: Option<&[u8]>,
     slab: &mut [u8],
     list: &mut [u64],
     order: &mut [usize],
     vector: &mut [u8],
-    work: &mut [u8],
-    scratch: &mut [u8],
-    columns: &mut [usize],
-    rows: &mut [usize],
-    ones: &mut [usize],
-    degrees: &mut [usize],
-    singles: &mut [usize],
-    labels: &mut [usize],
-    sizes: &mut [usize],
+    w: &mut Workspace<'_>,
 ) -> Answer
-    ensures { Called k m t bits.now (rows_of which octets.now) (buffers slab.old list.old order.old vector.old (working work.old scratch.old columns.old rows.old ones.old degrees.old singles.old labels.old sizes.old)) (outcome result (buffers slab.new list.new order.new vector.new (working work.new scratch.new columns.new rows.new ones.new degrees.new singles.new labels.new sizes.new))) }
+    ensures kept { Kept w.old w.new }
+    ensures called { Called k m t bits.now (rows_of (option_map (λ x. x.now) octets.entry)) (buffers slab.old list.old order.old vector.old (working_of w.old)) (outcome result (buffers slab.new list.new order.new vector.new (working_of w.new))) }
 {
+    let given = octets.is_some();
+    let octets: &[u8] = octets.unwrap_or(&[]);
     let n = Lengths {
         octets: octets.len(),
         slab: slab.len(),
         list: list.len(),
         order: order.len(),
         vector: vector.len(),
-        work: work.len(),
-        scratch: scratch.len(),
-        columns: columns.len(),
-        rows: rows.len(),
-        ones: ones.len(),
-        degrees: degrees.len(),
-        singles: singles.len(),
-        labels: labels.len(),
-        sizes: sizes.len(),
+        work: w.work.len(),
+        scratch: w.scratch.len(),
+        columns: w.columns.len(),
+        rows: w.rows.len(),
+        ones: w.ones.len(),
+        degrees: w.degrees.len(),
+        singles: w.singles.len(),
+        labels: w.labels.len(),
+        sizes: w.sizes.len(),
     };
-    match judge(k, m, t, bits, which, n) {
-        Verdict::Refused(a) => a,
-        Verdict::Taken(z, given) => tested::solve_tested(
-            z,
-            t,
-            bits,
-            &octets[0..given],
-            slab,
-            list,
-            order,
-            vector,
-            work,
-            scratch,
-            columns,
-            rows,
-            ones,
-            degrees,
-            singles,
-            labels,
-            sizes,
-        ),
-    }
+    let z = judge(k, m, t, bits, given, n)?;
+    tested::solve_tested(z, t, bits, octets, slab, list, order, vector, w)
 }

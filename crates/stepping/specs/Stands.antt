@@ -27,7 +27,7 @@
 --   at_some                  where there is one, the phase after a step more is the one with it taken
 --   Standing                 the slices hold the phase after i steps
 -- Assumes nothing.
-use Rattle.std.specs.Prelude.{◌≡◌, refl, get_or, take, drop, eqb}
+use Rattle.std.specs.Prelude.{◌≡◌, refl, get_or, take, eqb}
 use Rattle.std.proofs.Math.Path.{sym, ap, ap₂, subst, fun_ext}
 use Rattle.std.proofs.Common.{◌∙◌, inl, inr, ⊎_elim, arith, eqb-true}
 use mathlib.Core.List.{List, [], ◌∷◌, ◌++◌, append_assoc}
@@ -42,7 +42,7 @@ use Rattle.rule.specs.Sets.{bool_or, in_cast, sub_length, in_at}
 use Rattle.rule.specs.Singles.{Removed, exchanged}
 use Rattle.std.proofs.lemmas.Bool.{eqb-false}
 use Rattle.rule.specs.Permitted.{count, Permitted}
-use Rattle.rule.specs.Rule.{Marks, choose, chosen, after, Cut, arrange, without, next_singles, add_pairs, noted}
+use Rattle.rule.specs.Rule.{Marks, choose, chosen, Cut, arrange, without, next_singles, add_pairs, noted}
 use Rattle.rule.specs.Step.{Arranged}
 use Rattle.rule.specs.Chosen.{Good}
 use Rattle.rule.proofs.Reached.{reached_good}
@@ -52,10 +52,9 @@ use Rattle.phases.specs.ByPlace.{rows_join, pivots_join, length-rows_of, length_
 use Rattle.phases.specs.Occ.{occ, occ-append, occ-range, in_member, once_nodup}
 use Rattle.phases.specs.Fit.{Fit, cols-below, cols_once, less?}
 use Rattle.phases.proofs.Fit.{rows-below}
-use Rattle.phases.specs.Fit as R
 use Rattle.phases.proofs.Fit as Rp
 use Rattle.phases.specs.Walk.{Walked}
-use Rattle.phases.proofs.Walk.{permitted, walked, cut_arranged, taken_walked}
+use Rattle.phases.proofs.Walk.{permitted, cut_arranged, taken_walked}
 use Rattle.grid.specs.Grid.{bit, Under, Rows}
 use Rattle.singles.specs.Facts.{front-one}
 use Rattle.singles.specs.Figures.{Sound}
@@ -108,10 +107,6 @@ stands_one {s = s} {s' = s'} {n = n} {n' = n'} p q =
       m.1,
       λ y h. p.figures.is y h ∙ sym (q.figures.is y h),
     )
-
--- the first n of a list, as a slice has them
-first_part : (s : List ℕ) (n : ℕ) → take (n - 0) (drop 0 s) ≡ take n s
-first_part s n = let e : n - 0 ≡ n = omega arith in ap (λ (k : ℕ). take k s) e
 
 module _ {z : Shape} {bits : List ℕ} {p : Phase} {c d ones s labels : List ℕ} {i u n next : ℕ} (g : Given z bits) (h : Stands z bits p c d ones s labels i u n next) where
   abbrev A : ℕ → ℕ → ℕ
@@ -194,8 +189,8 @@ module _ {z : Shape} {bits : List ℕ} {p : Phase} {c d ones s labels : List ℕ
   pub elig_under : (m : ℕ) → m ≡ z.m → Under m (part i (z.m - z.h - i) d)
   elig_under m e = subst (Under m) (sym rows-part) (under_of p.now.elig (λ y k. omega (arith, row_low y k)))
 
-  pub singles_under : (m : ℕ) → m ≡ z.m → Under m (take (n - 0) (drop 0 s))
-  singles_under m e = subst (Under m) (sym (first_part s n)) (under_of (take n s) (λ y k. omega (arith, h.sound.held.under y k, h.long)))
+  pub singles_under : (m : ℕ) → m ≡ z.m → Under m (take n s)
+  singles_under m e = under_of (take n s) (λ y k. omega (arith, h.sound.held.under y k, h.long))
 
   pub bounds : (i ≤ z.n - u) × (z.n - u ≤ length c) × (i ≤ z.m - z.h) × (z.m - z.h ≤ length d)
   bounds = (omega (arith, cols_long), omega (arith, h.wide), omega (arith, rows_long), omega (arith, h.tall))
@@ -208,11 +203,10 @@ module _ {z : Shape} {bits : List ℕ} {p : Phase} {c d ones s labels : List ℕ
 
   -- the choice by the slices is the definition's
   pub chosen_is : (deg : List ℕ) → ((x : ℕ) → told deg x ≡ degree A z x)
-      → choose (bit z.n bits) (told deg) (part i (z.n - u - i) c) (part i (z.m - z.h - i) d) (take (n - 0) (drop 0 s)) (told labels) next ≡ next_row
+      → choose (bit z.n bits) (told deg) (part i (z.n - u - i) c) (part i (z.m - z.h - i) d) (take n s) (told labels) next ≡ next_row
   unfolding bit
   chosen_is deg q =
-      ap (λ (t : List ℕ). choose (one A) (told deg) (part i (z.n - u - i) c) (part i (z.m - z.h - i) d) t (told labels) next) (first_part s n)
-      ∙ ap (λ (v : List ℕ). choose (one A) (told deg) v (part i (z.m - z.h - i) d) (take n s) (told labels) next) cols-part
+      ap (λ (v : List ℕ). choose (one A) (told deg) v (part i (z.m - z.h - i) d) (take n s) (told labels) next) cols-part
       ∙ ap (λ (e : List ℕ). choose (one A) (told deg) p.now.cols e (take n s) (told labels) next) rows-part
       ∙ ap (λ (f : ℕ → ℕ). choose (one A) f p.now.cols p.now.elig (take n s) (told labels) next) (fun_ext q)
       ∙ ap (λ (l : List ℕ). choose (one A) (degree A z) p.now.cols p.now.elig l (told labels) next) h.list

@@ -1,29 +1,31 @@
 -- What it says that a form is kept, or that a list is written.
 --   Accepted                            the form is well made, and passes each test
---   Kept                                the same, and some numbers and a flag are those that it says
+--   IsKept                              the same, and some numbers and a flag are those that it says
 --   judged_accepted, accepted_judged    a form is kept just then, with what it says
---   Placed, kept-placed                 numbers of a form that is kept keep to their bounds
+--   Placed, kept-placed, judged-placed  numbers of a form that is kept keep to their bounds
 --   kept_read, done_write               what is in the rooms then
 --   length-order_in                      how many entries the order of a form has
 --   Accepts                             the list passes each test
 --   judged_accepts, accepts_judged      a list is written just then
 --   done-size                           as many bytes as its form has
+--   Sized                               they and the numbers of the list fit their places in a form
 -- Assumes nothing.
-use Rattle.std.specs.Prelude.{ℕ, ◌+◌, ◌*◌, ◌≤◌, Bool, ◌&&◌, List, length, drop}
+use Rattle.std.specs.Prelude.{ℕ, ◌+◌, ◌*◌, ◌<◌, ◌≤◌, Bool, ◌&&◌, List, length, drop, Result, Ok, Err, IfOk}
 use Rattle.std.proofs.Math.Path.{◌≡◌, refl}
-use Rattle.std.proofs.Common.{sym, ◌∙◌, arith, length-drop}
-use Rattle.std.proofs.Math.Bool.{true, false}
+use Rattle.std.proofs.Common.{sym, ap, ◌∙◌, arith, length-drop}
+use Rattle.std.proofs.Math.Bool.{true, false, cond}
 use borrow.Author.Tests.{leb-true, le-leb}
 use Rattle.std.proofs.Math.Dec.{leb}
 use Rattle.bounds.specs.Bounds.{most_ops}
 use Rattle.oplist.specs.Check.{shape_fine, list_fine, order_fine}
 use Rattle.oplist.specs.Facts.{and_left, and_right, shape_fine-shape}
-use Rattle.stored.specs.declared.Reading.TheVariants as read
-use Rattle.stored.specs.declared.Written.TheVariants as written
+use Rattle.stored.specs.declared.Kept.{Kept}
+use Rattle.stored.specs.declared.Refusal.{Refusal}
+use Rattle.stored.specs.declared.Refusal.TheVariants.{BadShape, NoRoom, BadList, BadForm}
 use Rattle.oplist.specs.Listed.{ops_of}
 use Rattle.stored.specs.Bytes.{padded}
 use Rattle.stored.specs.Form.{form_of, order_size, form_size, form_fine, rows_in, columns_in, ops_in, ordered_in, words_at, words_in, order_in}
-use Rattle.stored.specs.Answers.{pick_read, judged_by, judged, got, read_of, pick_written, judged_list, put_in, write_of}
+use Rattle.stored.specs.Answers.{said, same_kept, judged_by, judged, got, read_of, judged_list, put_in, write_of}
 use Rattle.stored.specs.Formed.{Formed, form_fine_formed, formed_form_fine}
 
 pub length-order_in : (b : List ℕ) → Formed b → length (order_in b) ≡ order_size (ordered_in b) (columns_in b)
@@ -38,31 +40,32 @@ pub record Accepted (b : List ℕ) (listRoom orderRoom : ℕ) : Type 0 where
   pub order : order_fine (rows_in b) (columns_in b) (ordered_in b) (order_in b) ≡ true
 
 -- a form is kept, with what it says
-pub record Kept (b : List ℕ) (listRoom orderRoom m l n : ℕ) (f : Bool) : Type 0 where
+pub record IsKept (b : List ℕ) (listRoom orderRoom : ℕ) (k : Kept) : Type 0 where
   pub accepted : Accepted b listRoom orderRoom
-  pub rows : m ≡ rows_in b
-  pub columns : l ≡ columns_in b
-  pub ops : n ≡ ops_in b
-  pub flag : f ≡ ordered_in b
+  pub rows : k.rows ≡ rows_in b
+  pub columns : k.columns ≡ columns_in b
+  pub ops : k.operations ≡ ops_in b
+  pub flag : k.ordered ≡ ordered_in b
 
 module _ (b : List ℕ) (listRoom orderRoom : ℕ) where
-  pub accepted_judged : Accepted b listRoom orderRoom → judged b listRoom orderRoom ≡ read.Kept (rows_in b) (columns_in b) (ops_in b) (ordered_in b)
+  pub accepted_judged : Accepted b listRoom orderRoom → judged b listRoom orderRoom ≡ Ok (said b)
   unfolding judged judged_by
   accepted_judged A =
       rw (formed_form_fine b A.formed, A.shape, le-leb _ _ A.list_fits, le-leb _ _ A.order_fits, A.list, A.order)
 
-  pub judged_accepted : (m l n : ℕ) (f : Bool) → judged b listRoom orderRoom ≡ read.Kept m l n f → Kept b listRoom orderRoom m l n f
+  pub judged_accepted : (k : Kept) → judged b listRoom orderRoom ≡ Ok k → IsKept b listRoom orderRoom k
   unfolding judged judged_by
-  judged_accepted m l n f q =
+  judged_accepted k q =
       go (form_fine b) (shape_fine (rows_in b) (columns_in b) (ops_in b)) (leb (ops_in b) listRoom && leb (order_size (ordered_in b) (columns_in b)) orderRoom)
       (list_fine (rows_in b) (words_in b) && order_fine (rows_in b) (columns_in b) (ordered_in b) (order_in b)) refl refl refl refl q
     where
       go : (x s r t : Bool) → form_fine b ≡ x → shape_fine (rows_in b) (columns_in b) (ops_in b) ≡ s
           → (leb (ops_in b) listRoom && leb (order_size (ordered_in b) (columns_in b)) orderRoom) ≡ r
           → (list_fine (rows_in b) (words_in b) && order_fine (rows_in b) (columns_in b) (ordered_in b) (order_in b)) ≡ t
-          → pick_read x (pick_read s (pick_read r (pick_read t (read.Kept (rows_in b) (columns_in b) (ops_in b) (ordered_in b)) read.BadList) read.NoRoom) read.BadShape) read.BadForm ≡ read.Kept m l n f
-          → Kept b listRoom orderRoom m l n f
-      go true true true true e1 e2 e3 e4 k =
+          → cond x (cond s (cond r (cond t (Ok (said b)) (Err BadList)) (Err NoRoom)) (Err BadShape)) (Err BadForm) ≡ Ok k
+          → IsKept b listRoom orderRoom k
+      go true true true true e1 e2 e3 e4 h =
+          let i : said b ≡ k = cc in
           record {
             accepted = record {
               formed = form_fine_formed b e1;
@@ -72,15 +75,15 @@ module _ (b : List ℕ) (listRoom orderRoom : ℕ) where
               list = and_left (list_fine (rows_in b) (words_in b)) _ e4;
               order = and_right (list_fine (rows_in b) (words_in b)) _ e4;
             };
-            rows = cc;
-            columns = cc;
-            ops = cc;
-            flag = cc;
+            rows = ap (λ (x : Kept). x.rows) (sym i);
+            columns = ap (λ (x : Kept). x.columns) (sym i);
+            ops = ap (λ (x : Kept). x.operations) (sym i);
+            flag = ap (λ (x : Kept). x.ordered) (sym i);
           }
-      go true true true false e1 e2 e3 e4 k = let z : ◌≡◌ {A = ℕ} 0 1 = cc in absurd (omega arith)
-      go true true false t e1 e2 e3 e4 k = let z : ◌≡◌ {A = ℕ} 0 1 = cc in absurd (omega arith)
-      go true false r t e1 e2 e3 e4 k = let z : ◌≡◌ {A = ℕ} 0 1 = cc in absurd (omega arith)
-      go false s r t e1 e2 e3 e4 k = let z : ◌≡◌ {A = ℕ} 0 1 = cc in absurd (omega arith)
+      go true true true false e1 e2 e3 e4 h = cc
+      go true true false t e1 e2 e3 e4 h = cc
+      go true false r t e1 e2 e3 e4 h = cc
+      go false s r t e1 e2 e3 e4 h = cc
 
 pub record Placed (b : List ℕ) (listRoom orderRoom n : ℕ) : Type 0 where
   pub few : n ≤ most_ops
@@ -88,8 +91,8 @@ pub record Placed (b : List ℕ) (listRoom orderRoom n : ℕ) : Type 0 where
   pub list : n ≤ listRoom
   pub order : length (drop (14 + 4 * n) b) ≤ orderRoom
 
-pub kept-placed : (b : List ℕ) (listRoom orderRoom m l n : ℕ) (f : Bool) → Kept b listRoom orderRoom m l n f → Placed b listRoom orderRoom n
-kept-placed b listRoom orderRoom m l n f K =
+pub kept-placed : (b : List ℕ) (listRoom orderRoom : ℕ) (k : Kept) → IsKept b listRoom orderRoom k → Placed b listRoom orderRoom k.operations
+kept-placed b listRoom orderRoom k K =
     let A = K.accepted in
     let s = A.formed.size in
     let o = length-order_in b A.formed in
@@ -102,11 +105,16 @@ kept-placed b listRoom orderRoom m l n f K =
       order = rw e (omega (arith, A.order_fits));
     }
 
-pub kept_read : (b list order : List ℕ) (m l n : ℕ) (f : Bool) (ws os : List ℕ) → Kept b (length list) (length order) m l n f
-    → ws ≡ padded (words_at b 13 n) (length list) → os ≡ padded (drop (14 + 4 * n) b) (length order) → got (read.Kept m l n f) ws os ≡ read_of b list order
+pub judged-placed : (b : List ℕ) (listRoom orderRoom : ℕ) (r : Result Kept Refusal) → r ≡ judged b listRoom orderRoom → IfOk r (λ k. Placed b listRoom orderRoom k.operations)
+judged-placed b listRoom orderRoom (Ok k) e = kept-placed b listRoom orderRoom k (judged_accepted b listRoom orderRoom k (sym e))
+judged-placed b listRoom orderRoom (Err x) e = tt
+
+pub kept_read : (b list order : List ℕ) (k : Kept) (ws os : List ℕ) → IsKept b (length list) (length order) k
+    → ws ≡ padded (words_at b 13 k.operations) (length list) → os ≡ padded (drop (14 + 4 * k.operations) b) (length order) → got (Ok k) ws os ≡ read_of b list order
 unfolding read_of
-kept_read b list order m l n f ws os K p q =
-    rw (accepted_judged b (length list) (length order) K.accepted, p, q, K.rows, K.columns, K.ops, K.flag)
+kept_read b list order k ws os K p q =
+    let e : k ≡ said b = same_kept K.rows K.columns K.ops K.flag in
+    rw (accepted_judged b (length list) (length order) K.accepted, p, q, e)
 
 pub record Accepts (m l : ℕ) (ws : List ℕ) (ordered : Bool) (order : List ℕ) (room : ℕ) : Type 0 where
   pub shape : shape_fine m l (length ws) ≡ true
@@ -114,18 +122,26 @@ pub record Accepts (m l : ℕ) (ws : List ℕ) (ordered : Bool) (order : List �
   pub list : list_fine m ws ≡ true
   pub orderly : order_fine m l ordered order ≡ true
 
+-- the numbers of a list and of the n bytes of its form fit their places
+pub record Sized (m l ops n : ℕ) : Type 0 where
+  pub long : 14 ≤ n
+  pub small : n < 4294967296
+  pub rows : m < 65536
+  pub columns : l < 65536
+  pub few : ops < 4294967296
+
 module _ (m l : ℕ) (ws : List ℕ) (ordered : Bool) (order : List ℕ) (room : ℕ) where
-  pub accepts_judged : Accepts m l ws ordered order room → judged_list m l ws ordered order room ≡ written.Done (form_size (length ws) l ordered)
+  pub accepts_judged : Accepts m l ws ordered order room → judged_list m l ws ordered order room ≡ Ok (form_size (length ws) l ordered)
   unfolding judged_list
   accepts_judged A = rw (A.shape, le-leb _ _ A.fits, A.list, A.orderly)
 
-  pub judged_accepts : (n : ℕ) → judged_list m l ws ordered order room ≡ written.Done n → Accepts m l ws ordered order room
+  pub judged_accepts : (n : ℕ) → judged_list m l ws ordered order room ≡ Ok n → Accepts m l ws ordered order room
   unfolding judged_list
   judged_accepts n q =
       go (shape_fine m l (length ws)) (leb (form_size (length ws) l ordered) room) (list_fine m ws && order_fine m l ordered order) refl refl refl q
     where
       go : (s r t : Bool) → shape_fine m l (length ws) ≡ s → leb (form_size (length ws) l ordered) room ≡ r → (list_fine m ws && order_fine m l ordered order) ≡ t
-          → pick_written s (pick_written r (pick_written t (written.Done (form_size (length ws) l ordered)) written.BadList) written.NoRoom) written.BadShape ≡ written.Done n
+          → cond s (cond r (cond t (Ok (form_size (length ws) l ordered)) (Err BadList)) (Err NoRoom)) (Err BadShape) ≡ Ok n
           → Accepts m l ws ordered order room
       go true true true e1 e2 e3 k =
           record {
@@ -134,16 +150,16 @@ module _ (m l : ℕ) (ws : List ℕ) (ordered : Bool) (order : List ℕ) (room :
             list = and_left (list_fine m ws) _ e3;
             orderly = and_right (list_fine m ws) _ e3;
           }
-      go true true false e1 e2 e3 k = let z : ◌≡◌ {A = ℕ} 0 1 = cc in absurd (omega arith)
-      go true false t e1 e2 e3 k = let z : ◌≡◌ {A = ℕ} 0 1 = cc in absurd (omega arith)
-      go false r t e1 e2 e3 k = let z : ◌≡◌ {A = ℕ} 0 1 = cc in absurd (omega arith)
+      go true true false e1 e2 e3 k = cc
+      go true false t e1 e2 e3 k = cc
+      go false r t e1 e2 e3 k = cc
 
-  pub done-size : (n : ℕ) → judged_list m l ws ordered order room ≡ written.Done n → n ≡ form_size (length ws) l ordered
+  pub done-size : (n : ℕ) → judged_list m l ws ordered order room ≡ Ok n → n ≡ form_size (length ws) l ordered
   done-size n q =
-      let e : written.Done n ≡ written.Done (form_size (length ws) l ordered) = sym q ∙ accepts_judged (judged_accepts n q) in
+      let e : ◌≡◌ {A = Result ℕ Refusal} (Ok n) (Ok (form_size (length ws) l ordered)) = sym q ∙ accepts_judged (judged_accepts n q) in
       cc
 
-  pub done_write : (out x : List ℕ) (n : ℕ) → judged_list m l ws ordered order (length out) ≡ written.Done n
-      → x ≡ padded (form_of m l (ops_of ws) ordered order) (length out) → put_in (written.Done n) x ≡ write_of m l ws ordered order out
+  pub done_write : (out x : List ℕ) (n : ℕ) → judged_list m l ws ordered order (length out) ≡ Ok n
+      → x ≡ padded (form_of m l (ops_of ws) ordered order) (length out) → put_in (Ok n) x ≡ write_of m l ws ordered order out
   unfolding write_of
   done_write out x n q p = rw (q, p)

@@ -4,12 +4,11 @@
 --   example_kept   it is kept, with room for one operation and no order
 --   example_list   what it says
 -- Assumes nothing.
-use Rattle.std.specs.Prelude.{ℕ, ◌≡◌, refl, false, List, [], ◌∷◌}
+use Rattle.std.specs.Prelude.{ℕ, ◌≡◌, refl, false, List, [], ◌∷◌, Ok}
 use Rattle.oplist.specs.declared.Op.TheVariants.{MulAssign}
 use Rattle.oplist.specs.Word.{meaning}
 use Rattle.oplist.specs.Listed.{ops_of}
 use Rattle.oplist.specs.Check.{op_fine, list_fine, order_fine, shape_fine}
-use Rattle.stored.specs.declared.Reading.TheVariants.{Kept}
 use Rattle.stored.specs.Form.{ops_bytes, form_of, words_at, words_in, unused_at, unused_fine, form_fine}
 use Rattle.stored.specs.Answers.{judged_by, judged}
 
@@ -20,7 +19,7 @@ pub example_form : form_of 27 27 (MulAssign 7 142 ∷ []) false [] ≡ bytes
 unfolding form_of ops_bytes
 example_form = refl
 
-pub example_kept : judged bytes 1 0 ≡ Kept 27 27 1 false
+pub example_kept : judged bytes 1 0 ≡ Ok (record { rows = 27; columns = 27; operations = 1; ordered = false })
 unfolding judged judged_by form_fine unused_fine unused_at shape_fine list_fine op_fine order_fine words_at meaning
 example_kept = refl
 

@@ -9,7 +9,7 @@
 --   one_form        two accepted forms that say the same are the same
 --   written_read    writing what was read gives the same bytes
 -- Assumes nothing.
-use Rattle.std.specs.Prelude.{ℕ, zero, suc, ◌+◌, ◌*◌, ◌<◌, ◌≤◌, ◌≡◌, Bool, true, false, ◌&&◌, eqb}
+use Rattle.std.specs.Prelude.{ℕ, zero, suc, ◌+◌, ◌*◌, ◌<◌, ◌≤◌, ◌≡◌, Bool, true, false, ◌&&◌, eqb, Option, Some, None, is_some, unwrap_or, Ok}
 use Rattle.std.proofs.Math.Path.{refl, sym, ap, ap₂}
 use Rattle.std.proofs.Common.{◌∙◌, eqb-true, get_or-drop, drop-drop}
 use mathlib.Core.List.{List, [], ◌∷◌, map}
@@ -19,17 +19,14 @@ use Rattle.std.proofs.Math.ListN.{length, get_or, drop}
 use Rattle.loops.specs.Part.{drop-next}
 use Rattle.oplist.specs.declared.Op.{Op}
 use Rattle.oplist.specs.declared.Op.TheVariants.{AddAssign, MulAssign, FMA}
-use Rattle.oplist.specs.declared.Word.{Word}
-use Rattle.oplist.specs.declared.Word.TheVariants.{Known, Unknown}
 use Rattle.oplist.specs.Word.{word, kind_of, scalar_of, dest_of, src_of, packed, meaning, Small, Fields, fields, packed-meaning}
 use Rattle.oplist.specs.Listed.{is_known, with_op, known, ops_of, packed-ops_of, length-ops_of}
 use Rattle.oplist.specs.Check.{shape_fine, list_fine, order_fine}
 use Rattle.oplist.specs.Facts.{never, list_fine-known, shape_fine-shape}
-use Rattle.stored.specs.declared.Reading.TheVariants as read
-use Rattle.stored.specs.declared.Written.TheVariants as written
+use Rattle.stored.specs.declared.Kept.{Kept}
 use Rattle.stored.specs.Bytes.{number4, digits2, digits4, Bytes, padded, number2-digits2, number4-digits4, digits2-number2, digits4-number4}
 use Rattle.stored.specs.Form.{op_bytes, ops_bytes, order_bytes, order_size, form_size, form_of, rows_in, columns_in, ops_in, flag_in, ordered_in, word_at, words_at, words_in, order_in, unused_at, unused_fine}
-use Rattle.stored.specs.Answers.{judged, got, read_of, put_in, write_of}
+use Rattle.stored.specs.Answers.{same_kept, judged, got, read_of, put_in, write_of}
 use Rattle.stored.specs.Scan.{length-words_at}
 use Rattle.stored.specs.Formed.{Formed}
 use Rattle.stored.specs.Accepted.{Accepted, Accepts, length-order_in, accepted_judged, accepts_judged}
@@ -98,11 +95,18 @@ module _ (m l : ℕ) (ws : List ℕ) (f : Bool) (order : List ℕ) (shape : shap
   count : length (ops_of ws) ≡ length ws
   count = length-ops_of ws (list_fine-known m ws list)
 
+  order_lem : (o : Option (List ℕ)) → order_fine m l (is_some o) (unwrap_or o []) ≡ true → length (form_of m l (ops_of ws) (is_some o) (unwrap_or o [])) ≡ form_size (length ws) l (is_some o)
+  order_lem o h =
+      let e = length-laid (head_of (10 + 4 * length ws + order_size (is_some o) l) m l (length ws) []) ws m l o h in
+      ap length (sym (laid_form m l ws o shape list h)) ∙ e ∙ omega arith
+
   size : length form ≡ form_size (length ws) l f
-  unfolding form
-  size =
-      let e = length-laid (head_of (10 + 4 * length ws + order_size f l) m l (length ws) []) ws m l f order orderly in
-      ap length (sym (laid_form m l ws f order shape list orderly)) ∙ e ∙ omega arith
+  unfolding form form_of order_fine
+  size = of f orderly
+    where
+      of : (g : Bool) → order_fine m l g order ≡ true → length (form_of m l (ops_of ws) g order) ≡ form_size (length ws) l g
+      of true h = order_lem (Some order) h
+      of false h = order_lem None refl
 
   ops_in_lem : ops_in form ≡ length ws
   unfolding form form_of
@@ -222,16 +226,13 @@ module _ (m l : ℕ) (ws : List ℕ) (f : Bool) (order : List ℕ) (shape : shap
 
   -- what is written reads back to the same list and order
   pub read_written : (list' order' : List ℕ) → length ws ≤ length list' → order_size f l ≤ length order'
-      → read_of (form_of m l (ops_of ws) f order) list' order' ≡ got (read.Kept m l (length ws) f) (padded ws (length list')) (padded (entries f order) (length order'))
+      → read_of (form_of m l (ops_of ws) f order) list' order' ≡ got (Ok (record { rows = m; columns = l; operations = length ws; ordered = f })) (padded ws (length list')) (padded (entries f order) (length order'))
   unfolding form read_of
   read_written list' order' h k =
       let S = form_says in
       let e = accepted_judged form (length list') (length order') (form_accepted (length list') (length order') h k) in
-      let r : judged form (length list') (length order') ≡ read.Kept m l (length ws) f = e ∙ kept S.rows S.columns S.ops S.ordered in
+      let r : judged form (length list') (length order') ≡ Ok (record { rows = m; columns = l; operations = length ws; ordered = f }) = e ∙ ap (λ (x : Kept). Ok x) (same_kept S.rows S.columns S.ops S.ordered) in
       rw (r, S.words, S.entries_in)
-    where
-      kept : {a b c : ℕ} {g : Bool} → a ≡ m → b ≡ l → c ≡ length ws → g ≡ f → read.Kept a b c g ≡ read.Kept m l (length ws) f
-      kept p q s t = cc
 
 -- from a form to its list
 
@@ -239,7 +240,7 @@ grow : (b t : List ℕ) (k : ℕ) → k < length b → drop (k + 1) b ≡ t → 
 grow b t k h e = drop-next b k h ∙ ap (λ (x : List ℕ). get_or b k 0 ∷ x) e
 
 -- an operation's bytes are those of its word
-op_bytes-known : (k x d s : ℕ) (o : Op) (r : List ℕ) → k < 256 → x < 256 → d < 256 → s < 256 → meaning (word k x d s) ≡ Known o → op_bytes o r ≡ k ∷ d ∷ s ∷ x ∷ r
+op_bytes-known : (k x d s : ℕ) (o : Op) (r : List ℕ) → k < 256 → x < 256 → d < 256 → s < 256 → meaning (word k x d s) ≡ Some o → op_bytes o r ≡ k ∷ d ∷ s ∷ x ∷ r
 unfolding packed
 op_bytes-known k x d s o r hk hx hd hs e = of o (packed-meaning (word k x d s) o e).is (packed-meaning (word k x d s) o e).small
   where
@@ -272,15 +273,15 @@ words_back (suc n) b at h B k = of (meaning (word_at b at)) refl k (words_back n
         let d : at + 3 + 1 ≡ at + 4 = omega arith in
         grow b _ at (omega arith) (grow b _ (at + 1) (omega arith) (rw a (grow b _ (at + 2) (omega arith) (rw c (grow b _ (at + 3) (omega arith) (rw d))))))
 
-    of : (v : Word) → meaning (word_at b at) ≡ v → (is_known v && known (words_at b (at + 4) n)) ≡ true
+    of : (v : Option Op) → meaning (word_at b at) ≡ v → (is_known v && known (words_at b (at + 4) n)) ≡ true
         → (known (words_at b (at + 4) n) ≡ true → ops_bytes (ops_of (words_at b (at + 4) n)) (drop (at + 4 + 4 * n) b) ≡ drop (at + 4) b)
         → ops_bytes (with_op v (ops_of (words_at b (at + 4) n))) (drop (at + 4 * suc n) b) ≡ drop at b
-    of (Known o) e q ih =
+    of (Some o) e q ih =
         let z : at + 4 * suc n ≡ at + 4 + 4 * n = omega arith in
         let i : ops_bytes (ops_of (words_at b (at + 4) n)) (drop (at + 4 * suc n) b) ≡ drop (at + 4) b = rw z (ih q) in
         ap (op_bytes o) i ∙ op_bytes-known (get_or b at 0) (get_or b (at + 3) 0) (get_or b (at + 1) 0) (get_or b (at + 2) 0) o (drop (at + 4) b) (B at) (B (at + 3)) (B (at + 1)) (B (at + 2)) e
         ∙ sym rest
-    of Unknown e q ih = never q
+    of None e q ih = never q
 
 zero_flag : (x : ℕ) → x ≤ 1 → (x ≡ 1 → ⊥) → x ≡ 0
 zero_flag zero h d = refl
@@ -347,7 +348,7 @@ module _ (b : List ℕ) (B : Bytes b) (listRoom orderRoom : ℕ) (A : Accepted b
 
   -- writing what was read gives the same bytes
   pub written_read : (out : List ℕ) → length b ≤ length out
-      → write_of (rows_in b) (columns_in b) (words_in b) (ordered_in b) (order_in b) out ≡ put_in (written.Done (length b)) (padded b (length out))
+      → write_of (rows_in b) (columns_in b) (words_in b) (ordered_in b) (order_in b) out ≡ put_in (Ok (length b)) (padded b (length out))
   unfolding write_of
   written_read out h =
       let n = length-words_at b 13 (ops_in b) in

@@ -1,5 +1,5 @@
 -- What loops over the operations of a form go by. An operation's bytes are the four at its place.
---   words_at-next, list_fine-next, unused_fine-next   operation k, and what comes after it
+--   words_at-next, list_fine_next, unused_fine_next   operation k, and what comes after it
 --   get_or-words_at, length-words_at                   the words one by one
 -- Assumes nothing.
 use Rattle.std.specs.Prelude.{ℕ, zero, suc, ◌+◌, ◌-◌, ◌*◌, ◌<◌, ◌≡◌, refl, ◌&&◌, List, ◌∷◌, length, get_or}
@@ -19,14 +19,14 @@ module _ (b : List ℕ) (at n k : ℕ) (h : k < n) where
   unfolding words_at
   words_at-next = rw (count, place)
 
-  pub list_fine-next : (m : ℕ)
+  pub list_fine_next : (m : ℕ)
       → list_fine m (words_at b (at + 4 * k) (n - k)) ≡ (word_fine m (meaning (word_at b (at + 4 * k))) && list_fine m (words_at b (at + 4 * (k + 1)) (n - (k + 1))))
   unfolding list_fine
-  list_fine-next m = rw words_at-next
+  list_fine_next m = rw words_at-next
 
-  pub unused_fine-next : unused_fine b (at + 4 * k) (n - k) ≡ (unused_at b (at + 4 * k) && unused_fine b (at + 4 * (k + 1)) (n - (k + 1)))
+  pub unused_fine_next : unused_fine b (at + 4 * k) (n - k) ≡ (unused_at b (at + 4 * k) && unused_fine b (at + 4 * (k + 1)) (n - (k + 1)))
   unfolding unused_fine
-  unused_fine-next = rw (count, place)
+  unused_fine_next = rw (count, place)
 
 pub length-words_at : (b : List ℕ) (at n : ℕ) → length (words_at b at n) ≡ n
 unfolding words_at

@@ -5,7 +5,7 @@
 --   undo_replay, replay_undo     of a list that undo accepts, undo after replay and replay after undo restore every byte
 --   replay_recovers              after a list that reduces the matrix, the symbols, each read where the answer says, are those that made the slab
 -- Assumes nothing.
-use Rattle.std.specs.Prelude.{◌≡◌, ◌≢◌, Bool, ℕ}
+use Rattle.std.specs.Prelude.{◌≡◌, ◌≢◌, Bool, ℕ, Ok, Err}
 use Rattle.std.proofs.Math.Path.{refl, sym}
 use Rattle.std.proofs.Common.{◌∙◌, arith}
 use Rattle.std.proofs.Math.Bool.{true, false}
@@ -20,12 +20,16 @@ use Rattle.algebra.proofs.Flat.{length-acts, undo-acts, acts-undo}
 use Rattle.algebra.specs.Solve.{Reduces}
 use Rattle.algebra.specs.Slab.{Source, through}
 use Rattle.algebra.proofs.Slab.{solved}
-use Rattle.symbol_slab.specs.declared.Answer.{Answer}
-use Rattle.symbol_slab.specs.declared.Answer.TheVariants.{InPlace, NotUndoable}
-use Rattle.symbol_slab.specs.declared.Check.{Check}
-use Rattle.symbol_slab.specs.declared.Check.TheVariants.{Pass, ShapeFails, ListFails}
-use Rattle.symbol_slab.specs.Replay.{number, row_of, read_by, checked, outcome, pick_outcome, replayed_by, replayed, undone_by, undone, Replayed, Undone}
+use Rattle.symbol_slab.specs.declared.Place.TheVariants.{InPlace}
+use Rattle.symbol_slab.specs.declared.Refusal.{Refusal}
+use Rattle.symbol_slab.specs.declared.Refusal.TheVariants.{BadShape, BadList, NotUndoable}
+use Rattle.symbol_slab.specs.Replay.{Answer, Check, number, row_of, read_by, checked, outcome, pick_outcome, replayed_by, replayed, undone_by, undone, Replayed, Undone}
 use Rattle.symbol_slab.specs.Passed.{passed, all_within, all_good}
+
+refused : (r : Refusal) → number (Err r) ≢ 0
+refused BadShape e = omega arith
+refused BadList e = omega arith
+refused NotUndoable e = omega arith
 
 module _ (m l t : ℕ) (ws : List ℕ) (b : Bool) (xs : List ℕ) where
   pub replay_one : {s u v : List ℕ} {q r : Answer} → Replayed m l t ws b xs s q u → Replayed m l t ws b xs s r v → outcome q u ≡ outcome r v
@@ -39,22 +43,20 @@ module _ (m l t : ℕ) (ws : List ℕ) (b : Bool) (xs : List ℕ) where
   replay_blind s r e = rw e (at (checked m l t ws b xs (length r)))
     where
       at : (c : Check) → (replayed_by c t ws b s).answer ≡ (replayed_by c t ws b r).answer
-      at Pass = refl
-      at ShapeFails = refl
-      at ListFails = refl
+      at (Ok p) = refl
+      at (Err r) = refl
 
   pub undo_blind : (s r : List ℕ) → length s ≡ length r → (undone m l t ws b xs s).answer ≡ (undone m l t ws b xs r).answer
   unfolding undone
   undo_blind s r e = rw e (at (checked m l t ws b xs (length r)))
     where
-      which : (d : Bool) (u v : List ℕ) → (pick_outcome d (outcome InPlace u) (outcome NotUndoable s)).answer ≡ (pick_outcome d (outcome InPlace v) (outcome NotUndoable r)).answer
+      which : (d : Bool) (u v : List ℕ) → (pick_outcome d (outcome (Ok InPlace) u) (outcome (Err NotUndoable) s)).answer ≡ (pick_outcome d (outcome (Ok InPlace) v) (outcome (Err NotUndoable) r)).answer
       which true u v = refl
       which false u v = refl
 
       at : (c : Check) → (undone_by c t ws s).answer ≡ (undone_by c t ws r).answer
-      at Pass = which (undoable (ops_of ws)) (acts t (undo (ops_of ws)) s) (acts t (undo (ops_of ws)) r)
-      at ShapeFails = refl
-      at ListFails = refl
+      at (Ok p) = which (undoable (ops_of ws)) (acts t (undo (ops_of ws)) s) (acts t (undo (ops_of ws)) r)
+      at (Err e) = refl
 
   module _ (s : List ℕ) where
     done : (c : Bool) → number (read_by c) ≡ 0
@@ -62,17 +64,16 @@ module _ (m l t : ℕ) (ws : List ℕ) (b : Bool) (xs : List ℕ) where
     done false = refl
 
     -- a call that was not refused passed the checks
-    replay_passed : number (replayed m l t ws b xs s).answer ≡ 0 → checked m l t ws b xs (length s) ≡ Pass
+    replay_passed : number (replayed m l t ws b xs s).answer ≡ 0 → checked m l t ws b xs (length s) ≡ Ok tt
     unfolding replayed
     replay_passed e = at (checked m l t ws b xs (length s)) e
       where
-        at : (c : Check) → number (replayed_by c t ws b s).answer ≡ 0 → c ≡ Pass
-        at Pass f = refl
-        at ShapeFails f = absurd (omega arith)
-        at ListFails f = absurd (omega arith)
+        at : (c : Check) → number (replayed_by c t ws b s).answer ≡ 0 → c ≡ Ok tt
+        at (Ok p) f = refl
+        at (Err r) f = absurd (refused r f)
 
     record Accepted : Type 0 where
-      pass : checked m l t ws b xs (length s) ≡ Pass
+      pass : checked m l t ws b xs (length s) ≡ Ok tt
       can : undoable (ops_of ws) ≡ true
 
     undo_accepted : number (undone m l t ws b xs s).answer ≡ 0 → Accepted
@@ -80,35 +81,32 @@ module _ (m l t : ℕ) (ws : List ℕ) (b : Bool) (xs : List ℕ) where
     undo_accepted e = at (checked m l t ws b xs (length s)) (undoable (ops_of ws)) refl refl e
       where
         at : (c : Check) (d : Bool) → checked m l t ws b xs (length s) ≡ c → undoable (ops_of ws) ≡ d → number (undone_by c t ws s).answer ≡ 0 → Accepted
-        at Pass true f g h = record { pass = f; can = g }
-        at Pass false f g h = let z : number (pick_outcome false (outcome InPlace (acts t (undo (ops_of ws)) s)) (outcome NotUndoable s)).answer ≡ 0 = rw g at h in absurd (omega arith)
-        at ShapeFails d f g h = absurd (omega arith)
-        at ListFails d f g h = absurd (omega arith)
+        at (Ok p) true f g h = record { pass = f; can = g }
+        at (Ok p) false f g h = let z : number (pick_outcome false (outcome (Ok InPlace) (acts t (undo (ops_of ws)) s)) (outcome (Err NotUndoable) s)).answer ≡ 0 = rw g at h in absurd (omega arith)
+        at (Err r) d f g h = absurd (refused r h)
 
     pub replay_refused : number (replayed m l t ws b xs s).answer ≢ 0 → (replayed m l t ws b xs s).slab ≡ s
     unfolding replayed
     replay_refused e = at (checked m l t ws b xs (length s)) e
       where
         at : (c : Check) → number (replayed_by c t ws b s).answer ≢ 0 → (replayed_by c t ws b s).slab ≡ s
-        at Pass f = absurd (f (done b))
-        at ShapeFails f = refl
-        at ListFails f = refl
+        at (Ok p) f = absurd (f (done b))
+        at (Err r) f = refl
 
     pub undo-refused : number (undone m l t ws b xs s).answer ≢ 0 → (undone m l t ws b xs s).slab ≡ s
     unfolding undone
     undo-refused e = at (checked m l t ws b xs (length s)) e
       where
-        which : (d : Bool) (u : List ℕ) → number (pick_outcome d (outcome InPlace u) (outcome NotUndoable s)).answer ≢ 0 → (pick_outcome d (outcome InPlace u) (outcome NotUndoable s)).slab ≡ s
+        which : (d : Bool) (u : List ℕ) → number (pick_outcome d (outcome (Ok InPlace) u) (outcome (Err NotUndoable) s)).answer ≢ 0 → (pick_outcome d (outcome (Ok InPlace) u) (outcome (Err NotUndoable) s)).slab ≡ s
         which true u f = absurd (f refl)
         which false u f = refl
 
         at : (c : Check) → number (undone_by c t ws s).answer ≢ 0 → (undone_by c t ws s).slab ≡ s
-        at Pass f = which (undoable (ops_of ws)) (acts t (undo (ops_of ws)) s) f
-        at ShapeFails f = refl
-        at ListFails f = refl
+        at (Ok p) f = which (undoable (ops_of ws)) (acts t (undo (ops_of ws)) s) f
+        at (Err r) f = refl
 
   module _ (s : List ℕ) (bytes : Bytes s) where
-    pub undo_replay : number (undone m l t ws b xs s).answer ≡ 0 → undone m l t ws b xs (replayed m l t ws b xs s).slab ≡ outcome InPlace s
+    pub undo_replay : number (undone m l t ws b xs s).answer ≡ 0 → undone m l t ws b xs (replayed m l t ws b xs s).slab ≡ outcome (Ok InPlace) s
     unfolding replayed undone
     undo_replay e =
         let a = undo_accepted s e in

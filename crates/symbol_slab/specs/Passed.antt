@@ -7,7 +7,7 @@
 --   all_good           the operations can be undone, if no row is multiplied by zero
 --   good_placed        the same of a list that can be undone, without a check
 -- Assumes nothing.
-use Rattle.std.specs.Prelude.{◌≡◌, refl, ◌≢◌, ◌⊎◌, Bool, true, false, ◌&&◌, List, [], ◌∷◌, ℕ, ◌+◌, ◌*◌, ◌^◌, ◌<◌, ◌≤◌, leb, ltb, length}
+use Rattle.std.specs.Prelude.{◌≡◌, refl, ◌≢◌, ◌⊎◌, Bool, true, false, ◌&&◌, List, [], ◌∷◌, ℕ, ◌+◌, ◌*◌, ◌^◌, ◌<◌, ◌≤◌, leb, ltb, length, Ok, Err}
 use Rattle.std.proofs.Common.{inl, inr, mul-le-mul_right, arith, leb-true, eqb-true, ltb-true, ltb-false}
 use Rattle.oplist.specs.declared.Op.{Op}
 use Rattle.oplist.specs.declared.Op.TheVariants.{AddAssign, MulAssign, FMA}
@@ -18,7 +18,7 @@ use Rattle.oplist.specs.Check.{shape_fine, list_fine, order_fine, undoable}
 use Rattle.oplist.specs.Facts.{and_left, and_right, Shape, shape_fine-shape, Fine, list_fine-each, undoable-each}
 use Rattle.algebra.specs.Rows.{Good, Within}
 use Rattle.algebra.specs.Flat.{fits}
-use Rattle.symbol_slab.specs.declared.Check.TheVariants.{Pass, ShapeFails, ListFails}
+use Rattle.symbol_slab.specs.declared.Refusal.TheVariants.{BadShape, BadList}
 use Rattle.symbol_slab.specs.Placed.{TwoRows, Placed}
 use Rattle.symbol_slab.specs.Turns.{AllPlaced}
 use Rattle.bounds.specs.Bounds.{most_bytes}
@@ -32,12 +32,12 @@ pub record Passed (m l t : ℕ) (ws : List ℕ) (b : Bool) (xs : List ℕ) (size
   pub fine : list_fine m ws ≡ true
   pub ordered : order_fine m l b xs ≡ true
 
-pub passed : (m l t : ℕ) (ws : List ℕ) (b : Bool) (xs : List ℕ) (size : ℕ) → checked m l t ws b xs size ≡ Pass → Passed m l t ws b xs size
+pub passed : (m l t : ℕ) (ws : List ℕ) (b : Bool) (xs : List ℕ) (size : ℕ) → checked m l t ws b xs size ≡ Ok tt → Passed m l t ws b xs size
 unfolding checked slab_shaped
 passed m l t ws b xs size e = at (slab_shaped m l t (length ws) size) (list_fine m ws && order_fine m l b xs) refl refl e
   where
     at : (p q : Bool) → slab_shaped m l t (length ws) size ≡ p → (list_fine m ws && order_fine m l b xs) ≡ q
-        → pick_check p (pick_check q Pass ListFails) ShapeFails ≡ Pass → Passed m l t ws b xs size
+        → pick_check p (pick_check q (Ok tt) (Err BadList)) (Err BadShape) ≡ Ok tt → Passed m l t ws b xs size
     at true true f g h =
         let u = and_right (shape_fine m l (length ws)) _ f in
         let v = and_right (leb 1 t) _ u in

@@ -1,5 +1,6 @@
 -- What replay and undo answer, and the slab that they leave. m is the number of rows, l that of symbols, t that of bytes a row; `b` says whether
 -- there is an order.
+--   Answer, Check      what a call answers, and what its checks say
 --   number             the number of an answer
 --   row_of              the row in which a symbol is then read
 --   read_by             the answer of a replay that is done: symbols are read by the order, or in place where there is none
@@ -13,7 +14,7 @@
 --   Replayed, Undone   what `replay` and `undo` promise of their answer r and the slab u that they leave
 --   replay_met, undo_met       the answer and the slab keep the promise
 -- Assumes nothing.
-use Rattle.std.specs.Prelude.{◌≡◌, Bool, ◌&&◌, ℕ, ◌*◌, leb, eqb, length, get_or}
+use Rattle.std.specs.Prelude.{◌≡◌, Bool, ◌&&◌, ℕ, ◌*◌, leb, eqb, length, get_or, Result, Ok, Err}
 use Rattle.std.proofs.Math.Path.{refl, ap}
 use Rattle.std.proofs.Common.{◌∙◌}
 use Rattle.std.proofs.Math.Bool.{true, false}
@@ -23,31 +24,36 @@ use Rattle.oplist.specs.Listed.{ops_of}
 use Rattle.oplist.specs.Check.{shape_fine, list_fine, order_fine, undoable}
 use Rattle.algebra.specs.Rows.{undo}
 use Rattle.algebra.specs.Flat.{acts}
-use Rattle.symbol_slab.specs.declared.Answer.{Answer}
-use Rattle.symbol_slab.specs.declared.Answer.TheVariants.{ByOrder, InPlace, BadShape, BadList, NotUndoable}
-use Rattle.symbol_slab.specs.declared.Check.{Check}
-use Rattle.symbol_slab.specs.declared.Check.TheVariants.{Pass, ShapeFails, ListFails}
+use Rattle.symbol_slab.specs.declared.Place.{Place}
+use Rattle.symbol_slab.specs.declared.Place.TheVariants.{ByOrder, InPlace}
+use Rattle.symbol_slab.specs.declared.Refusal.{Refusal}
+use Rattle.symbol_slab.specs.declared.Refusal.TheVariants.{BadShape, BadList, NotUndoable}
+
+-- the place where symbols are then read, or why the call was refused
+abbrev pub Answer : Type 0
+Answer = Result Place Refusal
+
+-- that the checks passed, or why the call is refused
+abbrev pub Check : Type 0
+Check = Result (Unit {0}) Refusal
 
 -- 0: done; 2: a bound or a length; 8: a list or an order; 9: a row multiplied by zero
 abbrev pub number : Answer → ℕ
-number ByOrder = 0
-number InPlace = 0
-number BadShape = 2
-number BadList = 8
-number NotUndoable = 9
+number (Ok p) = 0
+number (Err BadShape) = 2
+number (Err BadList) = 8
+number (Err NotUndoable) = 9
 
 -- symbol q is read through the order, or at its own place
 abbrev pub row_of : Answer → List ℕ → ℕ → ℕ
-row_of ByOrder xs q = get_or xs q 0
-row_of InPlace xs q = q
-row_of BadShape xs q = q
-row_of BadList xs q = q
-row_of NotUndoable xs q = q
+row_of (Ok ByOrder) xs q = get_or xs q 0
+row_of (Ok InPlace) xs q = q
+row_of (Err e) xs q = q
 
 -- after replay, by whether there is an order
 abbrev pub read_by : Bool → Answer
-read_by true = ByOrder
-read_by false = InPlace
+read_by true = Ok ByOrder
+read_by false = Ok InPlace
 
 -- n operations, and a slab of that many bytes
 unfoldable pub slab_shaped : ℕ → ℕ → ℕ → ℕ → ℕ → Bool
@@ -59,7 +65,7 @@ pick_check false a b = b
 
 unfoldable pub checked : ℕ → ℕ → ℕ → List ℕ → Bool → List ℕ → ℕ → Check
 checked m l t ws b xs size =
-    pick_check (slab_shaped m l t (length ws) size) (pick_check (list_fine m ws && order_fine m l b xs) Pass ListFails) ShapeFails
+    pick_check (slab_shaped m l t (length ws) size) (pick_check (list_fine m ws && order_fine m l b xs) (Ok tt) (Err BadList)) (Err BadShape)
 
 pub record Outcome : Type 0 where
   pub answer : Answer
@@ -73,17 +79,15 @@ pick_outcome true a b = a
 pick_outcome false a b = b
 
 abbrev pub replayed_by : Check → ℕ → List ℕ → Bool → List ℕ → Outcome
-replayed_by Pass t ws b s = outcome (read_by b) (acts t (ops_of ws) s)
-replayed_by ShapeFails t ws b s = outcome BadShape s
-replayed_by ListFails t ws b s = outcome BadList s
+replayed_by (Ok u) t ws b s = outcome (read_by b) (acts t (ops_of ws) s)
+replayed_by (Err e) t ws b s = outcome (Err e) s
 
 unfoldable pub replayed : ℕ → ℕ → ℕ → List ℕ → Bool → List ℕ → List ℕ → Outcome
 replayed m l t ws b xs s = replayed_by (checked m l t ws b xs (length s)) t ws b s
 
 abbrev pub undone_by : Check → ℕ → List ℕ → List ℕ → Outcome
-undone_by Pass t ws s = pick_outcome (undoable (ops_of ws)) (outcome InPlace (acts t (undo (ops_of ws)) s)) (outcome NotUndoable s)
-undone_by ShapeFails t ws s = outcome BadShape s
-undone_by ListFails t ws s = outcome BadList s
+undone_by (Ok u) t ws s = pick_outcome (undoable (ops_of ws)) (outcome (Ok InPlace) (acts t (undo (ops_of ws)) s)) (outcome (Err NotUndoable) s)
+undone_by (Err e) t ws s = outcome (Err e) s
 
 unfoldable pub undone : ℕ → ℕ → ℕ → List ℕ → Bool → List ℕ → List ℕ → Outcome
 undone m l t ws b xs s = undone_by (checked m l t ws b xs (length s)) t ws s
@@ -117,7 +121,7 @@ module _ {m l t : ℕ} {ws : List ℕ} {b : Bool} {xs s : List ℕ} {r : Answer}
         number_is = ap (λ (o : Outcome). number o.answer) e ∙ at (slab_shaped m l t (length ws) (length s)) (list_fine m ws && order_fine m l b xs) b;
       }
     where
-      at : (p q c : Bool) → number (replayed_by (pick_check p (pick_check q Pass ListFails) ShapeFails) t ws c s).answer ≡ pick p (pick q 0 8) 2
+      at : (p q c : Bool) → number (replayed_by (pick_check p (pick_check q (Ok tt) (Err BadList)) (Err BadShape)) t ws c s).answer ≡ pick p (pick q 0 8) 2
       at true true true = refl
       at true true false = refl
       at true false c = refl
@@ -131,11 +135,11 @@ module _ {m l t : ℕ} {ws : List ℕ} {b : Bool} {xs s : List ℕ} {r : Answer}
         number_is = ap (λ (o : Outcome). number o.answer) e ∙ at (slab_shaped m l t (length ws) (length s)) (list_fine m ws && order_fine m l b xs);
       }
     where
-      which : (c : Bool) (v : List ℕ) → number (pick_outcome c (outcome InPlace v) (outcome NotUndoable s)).answer ≡ pick c 0 9
+      which : (c : Bool) (v : List ℕ) → number (pick_outcome c (outcome (Ok InPlace) v) (outcome (Err NotUndoable) s)).answer ≡ pick c 0 9
       which true v = refl
       which false v = refl
 
-      at : (p q : Bool) → number (undone_by (pick_check p (pick_check q Pass ListFails) ShapeFails) t ws s).answer ≡ pick p (pick q (pick (undoable (ops_of ws)) 0 9) 8) 2
+      at : (p q : Bool) → number (undone_by (pick_check p (pick_check q (Ok tt) (Err BadList)) (Err BadShape)) t ws s).answer ≡ pick p (pick q (pick (undoable (ops_of ws)) 0 9) 8) 2
       at true true = which (undoable (ops_of ws)) (acts t (undo (ops_of ws)) s)
       at true false = refl
       at false q = refl

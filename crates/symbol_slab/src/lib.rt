@@ -1,74 +1,61 @@
 // A flat slab of symbols, row r being the t bytes from r * t on: a list of operations applied to it, and undone.
-// A list is words of `oplist`. Where `ordered` is true, symbol q of the l symbols is in row order[q] after the list; else in row q.
+// A list is words of `oplist`. With an order, symbol q of the l symbols is in row order[q] after the list; without one, in row q.
 #![tactic(auto)]
 
-ghost use Rattle.std.specs.Prelude.{◌≡◌, length};
+ghost use Rattle.std.specs.Prelude.{◌≡◌, [], is_some, unwrap_or, option_copied};
 ghost use Rattle.symbol_slab.specs.Replay.{slab_shaped, checked, Replayed, Undone};
 
 mod list;
+mod part;
 mod row;
 
-// What replay and undo answer.
-#[derive(Clone, Copy)]
-pub enum Answer {
-    // Done: symbol q is read in row order[q].
+// Where the symbols are read once a list is applied or undone.
+#[derive(Debug, Clone, Copy, PartialEq, Eq)]
+pub enum Place {
+    // Symbol q in row order[q].
     ByOrder,
-    // Done: symbol q is read in row q.
+    // Symbol q in row q.
     InPlace,
-    // Refused, and nothing changed: a number is out of its bounds, or a length does not match.
+}
+
+// Why a call is refused; it changed nothing.
+#[derive(Debug, Clone, Copy, PartialEq, Eq)]
+pub enum Refusal {
+    // A number is out of its bounds, or a length does not match.
     BadShape,
-    // Refused, and nothing changed: the list or the order is none of m rows.
+    // The list or the order is none of m rows.
     BadList,
-    // Refused, and nothing changed: a row was multiplied by zero.
+    // A row was multiplied by zero.
     NotUndoable,
 }
 
-// What the checks on a call say.
-#[derive(Clone, Copy)]
-enum Check {
-    Pass,
-    ShapeFails,
-    ListFails,
-}
-
 // Whether n operations on m rows of t bytes, for l symbols, keep to the bounds, and the slab's size is right.
+#[tactic(auto, unfolding(crate::specs::Replay::slab_shaped))]
 fn slab_shaped(m: usize, l: usize, t: usize, n: usize, size: usize) -> bool
     ensures { result ≡ slab_shaped m l t n size }
 {
-    if !oplist::shape_fine(m, l, n) {
-        return false;
-    }
-    if t < 1 {
-        return false;
-    }
-    if bounds::MOST_BYTES < t {
-        return false;
-    }
-    size == m * t
+    oplist::shape_fine(m, l, n) && 1 <= t && t <= bounds::MOST_BYTES && size == m * t
 }
 
 // The checks on a call, in the order in which they refuse.
+#[tactic(auto, unfolding(crate::specs::Replay::checked))]
 fn check_call(
     m: usize,
     l: usize,
     t: usize,
     list: &[u64],
-    ordered: bool,
-    order: &[usize],
+    order: Option<&[usize]>,
     size: usize,
-) -> Check
-    ensures { result ≡ checked m l t list.now ordered order.now size }
+) -> Result<(), Refusal>
+    ensures { let o = option_copied order.entry in result ≡ checked m l t list.now (is_some o) (unwrap_or o []) size }
 {
     if !slab_shaped(m, l, t, list.len(), size) {
-        return Check::ShapeFails;
+        return Err(Refusal::BadShape);
     }
-    if !oplist::list_fine(m, list) {
-        return Check::ListFails;
+    if !oplist::list_fine(m, list) || !oplist::order_fine(m, l, order) {
+        return Err(Refusal::BadList);
     }
-    if !oplist::order_fine(m, l, ordered, order) {
-        return Check::ListFails;
-    }
-    Check::Pass
+    Ok(())
 }
 
 // Applies a list to a slab of m rows of t bytes.
@@ -77,23 +64,16 @@ pub fn replay(
     l: usize,
     t: usize,
     list: &[u64],
-    ordered: bool,
-    order: &[usize],
+    order: Option<&[usize]>,
     slab: &mut [u8],
-) -> Answer
-    ensures { Replayed m l t list.now ordered order.now slab.old result slab.new }
+) -> Result<Place, Refusal>
+    ensures { let o = option_copied order.entry in Replayed m l t list.now (is_some o) (unwrap_or o []) slab.old result slab.new }
 {
-    match check_call(m, l, t, list, ordered, order, slab.len()) {
-        Check::ShapeFails => Answer::BadShape,
-        Check::ListFails => Answer::BadList,
-        Check::Pass => {
-            list::apply_all(slab, t, list);
-            if ordered {
-                Answer::ByOrder
-            } else {
-                Answer::InPlace
-            }
-        }
+    check_call(m, l, t, list, order, slab.len())?;
+    list::apply_all(slab, t, list);
+    match order {
+        Some(_) => Ok(Place::ByOrder),
+        None => Ok(Place::InPlace),
     }
 }
 
@@ -103,21 +83,15 @@ pub fn undo(
     l: usize,
     t: usize,
     list: &[u64],
-    ordered: bool,
-    order: &[usize],
+    order: Option<&[usize]>,
     slab: &mut [u8],
-) -> Answer
-    ensures { Undone m l t list.now ordered order.now slab.old result slab.new }
+) -> Result<Place, Refusal>
+    ensures { let o = option_copied order.entry in Undone m l t list.now (is_some o) (unwrap_or o []) slab.old result slab.new }
 {
-    match check_call(m, l, t, list, ordered, order, slab.len()) {
-        Check::ShapeFails => Answer::BadShape,
-        Check::ListFails => Answer::BadList,
-        Check::Pass => {
-            if !oplist::can_undo(list) {
-                return Answer::NotUndoable;
-            }
-            list::undo_all(slab, t, list);
-            Answer::InPlace
-        }
+    check_call(m, l, t, list, order, slab.len())?;
+    if !oplist::can_undo(list) {
+        return Err(Refusal::NotUndoable);
     }
+    list::undo_all(slab, t, list);
+    Ok(Place::InPlace)
 }

@@ -1,5 +1,5 @@
 // A list of operations applied to a flat slab, and undone, on a part of each row at a time.
-ghost use Rattle.std.specs.Prelude.{◌≡◌, true, length, get_or, ◌+◌, ◌-◌, ◌≤◌, ◌<◌};
+ghost use Rattle.std.specs.Prelude.{◌≡◌, true, length, get_or, ◌+◌, ◌-◌, ◌<◌};
 ghost use Rattle.octet.specs.Octet.{inverse as inv};
 ghost use Rattle.octets.specs.Multiples.{Blank};
 ghost use Rattle.oplist.specs.Word.{meaning};
@@ -10,23 +10,19 @@ ghost use Rattle.symbol_slab.specs.Placed.{Ready};
 ghost use Rattle.symbol_slab.specs.Columns.{Cols};
 ghost use Rattle.symbol_slab.specs.Turns.{PlacedWord, AllPlaced, word_ops, source, Applied};
 
-use octet::{Octet, Quotient};
-use oplist::{Op, Word};
+use crate::part::{Part, Room};
+use octet::Octet;
+use octets::multiples::ROOM;
+use oplist::Op;
 
-// A number that no word has for a row.
-const NO_ROW: usize = 65536;
-
-// The row of which a word's operation adds a multiple; no row, if it adds none.
-fn source_of(w: u64) -> usize
+// The row of which a word's operation adds a multiple, if it adds one.
+#[tactic(auto, unfolding(crate::specs::Turns::source))]
+fn source_of(w: u64) -> Option<usize>
     ensures { result ≡ source (meaning w) }
 {
     match oplist::unpack(w) {
-        Word::Known(op) => match op {
-            Op::AddAssign(_, _) => NO_ROW,
-            Op::MulAssign(_, _) => NO_ROW,
-            Op::FMA(_, s, _) => s,
-        },
-        Word::Unknown => NO_ROW,
+        Some(Op::FMA(_, source, _)) => Some(source),
+        _ => None,
     }
 }
 
@@ -34,56 +30,31 @@ fn source_of(w: u64) -> usize
 fn again(list: &[u64], i: usize) -> bool
     ensures { result ≡ true → source (meaning (get_or list.now (i - 1) 0)) ≡ source (meaning (get_or list.now i 0)) }
 {
-    if i < 1 {
-        return false;
-    }
-    if list.len() <= i {
-        return false;
-    }
-    let a = source_of(list[i - 1]);
-    if a == NO_ROW {
-        return false;
-    }
-    a == source_of(list[i])
+    0 < i
+        && i < list.len()
+        && source_of(list[i]).is_some()
+        && source_of(list[i - 1]) == source_of(list[i])
 }
 
-// The slab after the operation of one word on the n bytes from at on of each row, and what the room then holds (row::apply).
-fn apply_word(
-    slab: &mut [u8],
-    room: &mut [u8; octets::multiples::ROOM],
-    t: usize,
-    at: usize,
-    n: usize,
-    held: usize,
-    again: bool,
-    w: u64,
-) -> usize
-    requires { PlacedWord t (meaning w) (length slab.old) × (0 < n) × (n ≤ 1280) × (at + n ≤ t) × Ready n held slab.old room.old }
-    ensures { Applied t at n (word_ops (meaning w)) slab.old slab.new room.new result }
+// The slab after the operation of a word, if it is one's, on a part of each row.
+fn apply_word(slab: &mut [u8], room: &mut Room, part: Part, again: bool, word: Option<Op>)
+    requires { PlacedWord part.t word (length slab.old) × Ready part.n room.old.held slab.old room.old.bytes }
+    ensures { Applied part.t part.at part.n (word_ops word) slab.old slab.new room.new.bytes room.new.held }
 {
-    match oplist::unpack(w) {
-        Word::Known(op) => crate::row::apply(slab, room, t, at, n, held, again, op),
-        Word::Unknown => held,
+    if let Some(op) = word {
+        crate::row::apply(slab, room, part, again, op);
     }
 }
 
-// The slab after the operations of a list, first to last, on the n bytes from at on of each row.
-fn apply_columns(
-    slab: &mut [u8],
-    room: &mut [u8; octets::multiples::ROOM],
-    t: usize,
-    at: usize,
-    n: usize,
-    list: &[u64],
-)
-    requires { AllPlaced t (ops_of list.now) (length slab.old) × (0 < n) × (n ≤ 1280) × (at + n ≤ t) × Blank room.old }
-    ensures { Cols t at (at + n) (ops_of list.now) slab.old slab.new × Blank room.new }
+// The slab after the operations of a list, first to last, on a part of each row.
+fn apply_columns(slab: &mut [u8], room: &mut Room, part: Part, list: &[u64])
+    requires { AllPlaced part.t (ops_of list.now) (length slab.old) × Blank room.old.bytes }
+    ensures { Cols part.t part.at (part.at + part.n) (ops_of list.now) slab.old slab.new × Blank room.new.bytes }
 {
-    let mut held = slab.len();
-    let mut i = 0;
-    while i < list.len() {
-        held = apply_word(slab, room, t, at, n, held, again(list, i + 1), list[i]);
-        i += 1;
+    room.held = slab.len();
+    for i in 0..list.len() {
+        let word = oplist::unpack(list[i]);
+        apply_word(slab, room, part, again(list, i + 1), word);
     }
 }
 
@@ -92,12 +63,15 @@ pub fn apply_all(slab: &mut [u8], t: usize, list: &[u64])
     requires { AllPlaced t (ops_of list.now) (length slab.old) }
     ensures { slab.new ≡ acts t (ops_of list.now) slab.old }
 {
-    let mut room = [0u8; octets::multiples::ROOM];
+    let mut room = Room {
+        bytes: [0; ROOM],
+        held: slab.len(),
+    };
     let mut at = 0;
     while at < t {
-        let n = crate::row::least(t - at, octets::multiples::BLOCK);
-        apply_columns(slab, &mut room, t, at, n, list);
-        at += n;
+        let part = Part::new(t, at);
+        apply_columns(slab, &mut room, part, list);
+        at += part.n;
     }
 }
 
@@ -106,8 +80,8 @@ fn inverse_of(k: u8) -> u8
     ensures { result ≡ inv k }
 {
     match Octet::ONE.div(Octet { value: k }) {
-        Quotient::Value(q) => q.value,
-        Quotient::ZeroDivisor => 0,
+        Ok(q) => q.value,
+        Err(_) => 0,
     }
 }
 
@@ -116,64 +90,38 @@ fn inverted(op: Op) -> Op
     ensures { result ≡ inverse op }
 {
     match op {
-        Op::AddAssign(d, s) => Op::AddAssign(d, s),
         Op::MulAssign(d, k) => Op::MulAssign(d, inverse_of(k)),
-        Op::FMA(d, s, k) => Op::FMA(d, s, k),
+        Op::AddAssign(..) | Op::FMA(..) => op,
     }
 }
 
-// The slab after the operation of one word is undone on the n bytes from at on of each row, and what the room then holds (row::apply).
-fn undo_word(
-    slab: &mut [u8],
-    room: &mut [u8; octets::multiples::ROOM],
-    t: usize,
-    at: usize,
-    n: usize,
-    held: usize,
-    again: bool,
-    w: u64,
-) -> usize
-    requires { PlacedWord t (meaning w) (length slab.old) × (0 < n) × (n ≤ 1280) × (at + n ≤ t) × Ready n held slab.old room.old }
-    ensures { Applied t at n (undo (word_ops (meaning w))) slab.old slab.new room.new result }
+// The slab after the operations of a list are undone, last to first, on a part of each row.
+// Not one function with apply_columns: the words go the other way, and a contract for both ways would be longer than both.
+fn undo_columns(slab: &mut [u8], room: &mut Room, part: Part, list: &[u64])
+    requires { AllPlaced part.t (ops_of list.now) (length slab.old) × Blank room.old.bytes }
+    ensures { Cols part.t part.at (part.at + part.n) (undo (ops_of list.now)) slab.old slab.new × Blank room.new.bytes }
 {
-    match oplist::unpack(w) {
-        Word::Known(op) => crate::row::apply(slab, room, t, at, n, held, again, inverted(op)),
-        Word::Unknown => held,
-    }
-}
-
-// The slab after the operations of a list are undone, last to first, on the n bytes from at on of each row.
-fn undo_columns(
-    slab: &mut [u8],
-    room: &mut [u8; octets::multiples::ROOM],
-    t: usize,
-    at: usize,
-    n: usize,
-    list: &[u64],
-)
-    requires { AllPlaced t (ops_of list.now) (length slab.old) × (0 < n) × (n ≤ 1280) × (at + n ≤ t) × Blank room.old }
-    ensures { Cols t at (at + n) (undo (ops_of list.now)) slab.old slab.new × Blank room.new }
-{
-    let mut held = slab.len();
-    let m = list.len();
-    let mut done = 0;
-    while done < m {
-        let i = m - 1 - done;
-        held = undo_word(slab, room, t, at, n, held, again(list, i), list[i]);
-        done += 1;
+    room.held = slab.len();
+    for i in (0..list.len()).rev() {
+        let word = oplist::unpack(list[i]).map(inverted);
+        apply_word(slab, room, part, again(list, i), word);
     }
 }
 
 // The slab after the operations of a list are undone, last to first.
+// Not one function with apply_all: what a closure does to two lent buffers takes a longer contract than this loop.
 pub fn undo_all(slab: &mut [u8], t: usize, list: &[u64])
     requires { AllPlaced t (ops_of list.now) (length slab.old) }
     ensures { slab.new ≡ acts t (undo (ops_of list.now)) slab.old }
 {
-    let mut room = [0u8; octets::multiples::ROOM];
+    let mut room = Room {
+        bytes: [0; ROOM],
+        held: slab.len(),
+    };
     let mut at = 0;
     while at < t {
-        let n = crate::row::least(t - at, octets::multiples::BLOCK);
-        undo_columns(slab, &mut room, t, at, n, list);
-        at += n;
+        let part = Part::new(t, at);
+        undo_columns(slab, &mut room, part, list);
+        at += part.n;
     }
 }

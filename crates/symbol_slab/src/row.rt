@@ -1,36 +1,24 @@
-// Row operations on a flat slab, on a part of each row. Two rows of one slab can't be lent at once: a row that gains another is worked on within the slab,
-// and one that gains a multiple of another gets it from a room, which holds multiples of that row for a run of operations with the same row, or a copy of
-// it for one alone.
+// Row operations on a flat slab, on a part of each row. Two rows of one slab are lent at once only by a split, one of two for their two orders: a row that
+// gains another is worked on within the slab, and one that gains a multiple of another gets it from a room, which holds multiples of that row for a run of
+// operations with the same row, or a copy of it for one alone.
 ghost use Rattle.std.specs.Prelude.{◌≡◌, [], ◌∷◌, length, ◌+◌, ◌≤◌, ◌<◌};
 ghost use Rattle.octets.specs.Spans.{Span};
 ghost use Rattle.octets.specs.Multiples.{Blank, Multiples, entry};
 ghost use Rattle.symbol_slab.specs.Placed.{TwoRows, Placed, add_at, fma_at, scale_at, Ready};
 ghost use Rattle.symbol_slab.specs.Turns.{Applied};
 
+use crate::part::{Part, Room};
 use octet::Octet;
+use octets::multiples::BLOCK;
 use oplist::Op;
-
-// The lesser of two numbers that are not zero.
-pub fn least(a: usize, b: usize) -> usize
-    requires { (0 < a) × (0 < b) }
-    ensures { (0 < result) × (result ≤ a) × (result ≤ b) }
-{
-    if a < b {
-        return a;
-    }
-    b
-}
 
 // The n bytes from dest on gain the n bytes from src on. The two do not overlap.
 fn add_part(slab: &mut [u8], dest: usize, src: usize, n: usize)
     requires { TwoRows dest src n (length slab.old) }
     ensures { Span (add_at slab.old dest src) slab.old dest (dest + n) slab.new }
 {
-    let mut i = 0;
-    while i < n {
-        let x = dest + i;
-        slab[x] = slab[x] ^ slab[src + i];
-        i += 1;
+    for i in 0..n {
+        slab[dest + i] ^= slab[src + i];
     }
 }
 
@@ -43,46 +31,27 @@ fn scale_part(slab: &mut [u8], dest: usize, n: usize, k: u8)
     octets::scale(&mut slab[dest..end], Octet { value: k });
 }
 
-// The room gets the multiples of the n bytes from src on, unless it holds them: it holds those of the bytes from held on.
+// The room gets the multiples of the n bytes from src on, unless it holds them.
 #[tactic(auto, using(crate::specs::Placed::held_part, crate::proofs::Held::held_still))]
-fn hold(slab: &[u8], room: &mut [u8; octets::multiples::ROOM], src: usize, n: usize, held: usize)
-    requires { (src + n ≤ length slab.now) × (n ≤ 1280) × Ready n held slab.now room.old }
-    ensures { Multiples n (entry slab.now src) room.new × Blank room.new }
+fn hold(slab: &[u8], room: &mut Room, src: usize, n: usize)
+    requires { (src + n ≤ length slab.now) × (n ≤ 1280) × Ready n room.old.held slab.now room.old.bytes }
+    ensures { Multiples n (entry slab.now src) room.new.bytes × Blank room.new.bytes × (room.new.held ≡ src) }
 {
-    if held != src {
+    if room.held != src {
         let end = src + n;
-        octets::multiples::fill(room, &slab[src..end]);
+        octets::multiples::fill(&mut room.bytes, &slab[src..end]);
+        room.held = src;
     }
 }
 
 // The n bytes from dest on gain k times the n bytes from src on, from their multiples. The two do not overlap.
-fn fma_run(
-    slab: &mut [u8],
-    room: &mut [u8; octets::multiples::ROOM],
-    dest: usize,
-    src: usize,
-    n: usize,
-    k: u8,
-    held: usize,
-)
-    requires { TwoRows dest src n (length slab.old) × (n ≤ 1280) × Ready n held slab.old room.old }
-    ensures { Span (fma_at slab.old dest src k) slab.old dest (dest + n) slab.new × Ready n src slab.new room.new }
+fn fma_run(slab: &mut [u8], room: &mut Room, dest: usize, src: usize, n: usize, k: u8)
+    requires { TwoRows dest src n (length slab.old) × (n ≤ 1280) × Ready n room.old.held slab.old room.old.bytes }
+    ensures { Span (fma_at slab.old dest src k) slab.old dest (dest + n) slab.new × Ready n room.new.held slab.new room.new.bytes }
 {
-    hold(slab, room, src, n, held);
+    hold(slab, room, src, n);
     let end = dest + n;
-    octets::multiples::gather(&mut slab[dest..end], room, Octet { value: k });
-}
-
-// dest becomes src.
-fn copy(dest: &mut [u8], src: &[u8])
-    requires { length dest.old ≡ length src.now }
-    ensures { dest.new ≡ src.now }
-{
-    let mut i = 0;
-    while i < dest.len() {
-        dest[i] = src[i];
-        i += 1;
-    }
+    octets::multiples::gather(&mut slab[dest..end], &room.bytes, Octet { value: k });
 }
 
 // The n bytes from dest on gain k times the n bytes from src on, from a copy of them in the second block of the room, which is none of the digit 0.
@@ -92,63 +61,45 @@ fn fma_once(slab: &mut [u8], room: &mut [u8], dest: usize, src: usize, n: usize,
 {
     let dest_end = dest + n;
     let src_end = src + n;
-    let block = octets::multiples::BLOCK;
-    let block_end = block + n;
-    copy(&mut room[block..block_end], &slab[src..src_end]);
+    let block_end = BLOCK + n;
+    room[BLOCK..block_end].copy_from_slice(&slab[src..src_end]);
     octets::fma(
         &mut slab[dest..dest_end],
-        &room[block..block_end],
+        &room[BLOCK..block_end],
         Octet { value: k },
     );
 }
 
 // The n bytes from dest on gain k times the n bytes from src on: from their multiples, if the room holds them or the next operation has the same source
-// again, else from a copy. The two do not overlap. The answer is as that of `apply`.
-fn fma_part(
-    slab: &mut [u8],
-    room: &mut [u8; octets::multiples::ROOM],
-    dest: usize,
-    src: usize,
-    n: usize,
-    k: u8,
-    held: usize,
-    again: bool,
-) -> usize
-    requires { TwoRows dest src n (length slab.old) × (0 < n) × (n ≤ 1280) × Ready n held slab.old room.old }
-    ensures { Span (fma_at slab.old dest src k) slab.old dest (dest + n) slab.new × Ready n result slab.new room.new }
+// again, else from a copy. The two do not overlap.
+fn fma_part(slab: &mut [u8], room: &mut Room, dest: usize, src: usize, n: usize, k: u8, again: bool)
+    requires { TwoRows dest src n (length slab.old) × (0 < n) × (n ≤ 1280) × Ready n room.old.held slab.old room.old.bytes }
+    ensures { Span (fma_at slab.old dest src k) slab.old dest (dest + n) slab.new × Ready n room.new.held slab.new room.new.bytes }
 {
-    if again || held == src {
-        fma_run(slab, room, dest, src, n, k, held);
-        return src;
+    if again || room.held == src {
+        fma_run(slab, room, dest, src, n, k);
+        return;
     }
-    fma_once(slab, room, dest, src, n, k);
-    slab.len()
+    fma_once(slab, &mut room.bytes, dest, src, n, k);
+    room.held = slab.len();
 }
 
-// The slab, of rows of t bytes, after one operation on the n bytes from at on of each row; again says whether the next one adds a multiple of the same
-// row. The answer is where the bytes stand whose multiples the room then holds; the slab's length, if it holds none.
-pub fn apply(
-    slab: &mut [u8],
-    room: &mut [u8; octets::multiples::ROOM],
-    t: usize,
-    at: usize,
-    n: usize,
-    held: usize,
-    again: bool,
-    op: Op,
-) -> usize
-    requires { Placed t op (length slab.old) × (0 < n) × (n ≤ 1280) × (at + n ≤ t) × Ready n held slab.old room.old }
-    ensures { Applied t at n (op ∷ []) slab.old slab.new room.new result }
+// The slab after one operation on a part of each row; again says whether the next one adds a multiple of the same row.
+pub fn apply(slab: &mut [u8], room: &mut Room, part: Part, again: bool, op: Op)
+    requires { Placed part.t op (length slab.old) × Ready part.n room.old.held slab.old room.old.bytes }
+    ensures { Applied part.t part.at part.n (op ∷ []) slab.old slab.new room.new.bytes room.new.held }
 {
     match op {
         Op::AddAssign(d, s) => {
-            add_part(slab, d * t + at, s * t + at, n);
-            slab.len()
+            add_part(slab, part.start(d), part.start(s), part.n);
+            room.held = slab.len();
         }
         Op::MulAssign(d, k) => {
-            scale_part(slab, d * t + at, n, k);
-            slab.len()
+            scale_part(slab, part.start(d), part.n, k);
+            room.held = slab.len();
         }
-        Op::FMA(d, s, k) => fma_part(slab, room, d * t + at, s * t + at, n, k, held, again),
+        Op::FMA(d, s, k) => {
+            fma_part(slab, room, part.start(d), part.start(s), part.n, k, again);
+        }
     }
 }

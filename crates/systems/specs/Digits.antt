@@ -6,18 +6,21 @@
 --   clear          every entry is 0
 --   is_row l        digits of l bits, with zeros after them up to a whole byte
 --   is_bytes n      digits of n bytes
---   digits_bad, digits_good, digits_over, digits_all   a loop that looks for a digit, and a digit that it passed
+--   digits_is       the library's test of every byte;  digits_all   a byte of those that passed it
+--   digit_or        the value of a digit, or 0, has the digit's bits
 --   get_or-bytes, length-bytes, bit_at, length_bits   bytes and bits one by one
 --   clear-not, clear_next, clear-over   a loop that looks for a bit
---   row-size, row_bad, row_is, row_within   the tests of a row of bits
---   bytes-size, bytes-is, bytes_are         the tests of bytes
+--   row_within      a row of bits has enough digits
+--   bytes_are       digits of so many bytes
 -- Assumes nothing.
-use Rattle.std.specs.Prelude.{ℕ, zero, suc, ◌+◌, ◌-◌, ◌*◌, ◌/◌, ◌%◌, ◌≤◌, ◌<◌, Bool, cond, ◌&&◌, List, [], ◌∷◌, leb, ltb, get_or, take, drop}
+use Rattle.std.specs.Prelude.{ℕ, zero, suc, Option, Some, None, ◌+◌, ◌-◌, ◌*◌, ◌/◌, ◌%◌, ◌≤◌, ◌<◌, Bool, cond, ◌&&◌, List, [], ◌∷◌, leb, ltb, get_or, take, drop}
 use Rattle.std.proofs.Math.Path.{◌≡◌, refl}
+use Rattle.std.specs.List.{list_all}
+use Rattle.std.specs.Option.{MatchOption, unwrap_or}
 use Rattle.std.proofs.Common.{sym, ap, ◌∙◌, drop_of_length-le}
 use Rattle.std.proofs.Math.Bool.{true, false}
 use native.Mathlib.Omega.{arith}
-use borrow.Author.Tests.{eq-eqb, ne_eqb, le-leb, lt-leb, leb-true, eqb-true}
+use borrow.Author.Tests.{eq-eqb, ne_eqb, leb-true, eqb-true}
 use Rattle.std.proofs.Math.Dec.{eqb}
 use Rattle.std.proofs.Math.ListN.{length}
 use Rattle.loops.specs.Part.{drop-next}
@@ -52,18 +55,15 @@ is_row l digits = eqb (length digits) ((l + 7) / 8 * 2) && (are_digits digits &&
 unfoldable pub is_bytes : ℕ → List ℕ → Bool
 is_bytes n digits = eqb (length digits) (2 * n) && are_digits digits
 
-module _ (ds : List ℕ) (i : ℕ) where
-  pub digits_bad : i < length ds → 15 < nibble_of (get_or ds i 0) → are_digits (drop i ds) ≡ false
-  unfolding are_digits
-  digits_bad h e = rw (drop-next ds i h, lt-leb _ _ e)
+pub digits_is : (ds : List ℕ) → are_digits ds ≡ list_all (λ (c : ℕ). leb (nibble_of c) 15) ds
+unfolding are_digits
+digits_is [] = refl
+digits_is (c ∷ cs) = ap (λ (b : Bool). leb (nibble_of c) 15 && b) (digits_is cs)
 
-  pub digits_good : i < length ds → nibble_of (get_or ds i 0) ≤ 15 → are_digits (drop i ds) ≡ are_digits (drop (i + 1) ds)
-  unfolding are_digits
-  digits_good h e = rw (drop-next ds i h, le-leb _ _ e)
-
-  pub digits_over : length ds ≤ i → are_digits (drop i ds) ≡ true
-  unfolding are_digits
-  digits_over h = rw (drop_of_length-le ds h)
+-- of a byte that is no digit every bit is 0, as of 0
+pub digit_or : (r : Option ℕ) (n d : ℕ) → MatchOption r (n ≡ 16) (λ (x : ℕ). (x ≡ n) × (x < 16)) → d ≡ unwrap_or r 0 → d ≡ n % 16
+digit_or (Some x) n d h e = omega arith
+digit_or None n d h e = omega arith
 
 pub digits_all : (ds : List ℕ) (i : ℕ) → are_digits ds ≡ true → i < length ds → nibble_of (get_or ds i 0) ≤ 15
 unfolding are_digits
@@ -138,18 +138,6 @@ module _ (xs : List ℕ) (i : ℕ) where
   clear-over h = rw (drop_of_length-le xs h)
 
 module _ (l : ℕ) (ds : List ℕ) where
-  pub row-size : (length ds ≡ (l + 7) / 8 * 2 → ⊥) → is_row l ds ≡ false
-  unfolding is_row
-  row-size e = rw (ne_eqb _ _ e)
-
-  pub row_bad : length ds ≡ (l + 7) / 8 * 2 → are_digits ds ≡ false → is_row l ds ≡ false
-  unfolding is_row
-  row_bad e b = rw (eq-eqb _ _ e, b)
-
-  pub row_is : length ds ≡ (l + 7) / 8 * 2 → are_digits ds ≡ true → is_row l ds ≡ clear (drop l (bits_in ds))
-  unfolding is_row
-  row_is e b = rw (eq-eqb _ _ e, b)
-
   pub row_within : is_row l ds ≡ true → l ≤ 4 * length ds
   unfolding is_row
   row_within e = of (eqb (length ds) ((l + 7) / 8 * 2)) refl e
@@ -159,14 +147,6 @@ module _ (l : ℕ) (ds : List ℕ) where
       of false q f = let z : ◌≡◌ {A = ℕ} 0 1 = cc in absurd (omega arith)
 
 module _ (n : ℕ) (ds : List ℕ) where
-  pub bytes-size : (length ds ≡ 2 * n → ⊥) → is_bytes n ds ≡ false
-  unfolding is_bytes
-  bytes-size e = rw (ne_eqb _ _ e)
-
-  pub bytes-is : length ds ≡ 2 * n → is_bytes n ds ≡ are_digits ds
-  unfolding is_bytes
-  bytes-is e = rw (eq-eqb _ _ e)
-
   pub bytes_are : is_bytes n ds ≡ true → (are_digits ds ≡ true) × (length ds ≡ 2 * n)
   unfolding is_bytes
   bytes_are e = of (eqb (length ds) (2 * n)) refl e

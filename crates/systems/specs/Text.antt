@@ -6,25 +6,27 @@
 --   number_of at t   the same with a digit at least
 --   newlines t      how many newlines there are
 --   line_number_of t i   the number of the line that place i is in
---   end_here, end_next, end_over             a loop that looks for a line's end
---   starts_out, starts_other, starts_next, starts_over   a loop that compares a word
+--   end_is, end_found   the end is the first newline's place, as the library has it
+--   starts_is, strip_is   the library's tests of a line's first word
 --   starts_long     a line is as long as the word that it starts with
---   digits_space, digits_low, digits_high, digits_large, digits_next, digits_over   a loop that reads digits
+--   digits_space, digits_bad, digits_next, digits_over   a loop that reads digits
 --   number_out, number-space, number_digits  whether there is a digit
 --   lines_at, line_ends, line_long, lines_over   the line at a place, and the lines after it
---   count-newline, count-other, count_there, count-over   a loop that counts lines
+--   newlines-count  the newlines, counted by the library
 --   line-number-one   two results that meet the statement are equal
 -- Assumes nothing.
 use Prim.Native.Nat.{ℕ, suc, ◌+◌, ◌-◌, ◌*◌, ◌≤◌, ◌<◌}
-use Rattle.std.specs.Prelude.{◌≡◌, refl, Bool, true, false, cond, ◌&&◌, List, [], ◌∷◌, eqb, leb, ltb, length, get_or, take, drop}
-use Rattle.std.proofs.Common.{sym, ap, ◌∙◌, length-drop, drop-drop, length-take-le}
+use Rattle.std.specs.Prelude.{◌≡◌, refl, Bool, true, false, cond, ◌&&◌, Option, Some, None, List, [], ◌∷◌, eqb, leb, ltb, length, get_or, take, drop}
+use Rattle.std.specs.List.{count_by, position_or_len, position}
+use Rattle.std.specs.Option.{unwrap_or}
+use Rattle.std.specs.Cmp.Lexicographic.{pointwise}
+use Rattle.std.proofs.lemmas.Bool.Decides.{nat_tests}
+use Rattle.std.proofs.lemmas.List.Recursion.{is_count_by, is_position_or_len}
+use Rattle.std.proofs.Common.{one-add, sym, ap, ap₂, ◌∙◌, length-drop, drop-drop, length-take-le}
 use native.Mathlib.Omega.{arith}
-use borrow.Author.Tests.{eq-eqb, ne_eqb, le-leb, lt-leb, lt-ltb, le-ltb}
+use borrow.Author.Tests.{eq-eqb, ne_eqb, le-leb, lt-ltb, ltb-false}
 use Rattle.std.proofs.Math.ListN.{drop_of_length-le}
-use Rattle.std.proofs.Math.Seq.{take-nil}
 use Rattle.loops.specs.Part.{drop-next}
-use Rattle.systems.specs.declared.told.Number.{Number}
-use Rattle.systems.specs.declared.told.Number.TheVariants.{Found, Malformed}
 
 unfoldable pub end_of : List ℕ → ℕ
 end_of [] = 0
@@ -45,15 +47,15 @@ starts_with (w ∷ ws) [] = false
 starts_with (w ∷ ws) (x ∷ xs) = eqb x w && starts_with ws xs
 
 -- up to a space or the line's end; a number has at most seven digits after its zeros
-unfoldable pub digits_of : ℕ → ℕ → List ℕ → Number
-digits_of v at [] = Found v (at + 1)
+unfoldable pub digits_of : ℕ → ℕ → List ℕ → Option (ℕ × ℕ)
+digits_of v at [] = Some (v, at + 1)
 digits_of v at (c ∷ cs) =
-    cond (eqb c 32) (Found v (at + 1))
-    (cond (leb 48 c && (leb c 57 && ltb v 1000000)) (digits_of (v * 10 + (c - 48)) (at + 1) cs) Malformed)
+    cond (eqb c 32) (Some (v, at + 1))
+    (cond (leb 48 c && (leb c 57 && ltb v 1000000)) (digits_of (v * 10 + (c - 48)) (at + 1) cs) None)
 
-unfoldable pub number_of : ℕ → List ℕ → Number
-number_of at [] = Malformed
-number_of at (c ∷ cs) = cond (eqb c 32) Malformed (digits_of 0 at (c ∷ cs))
+unfoldable pub number_of : ℕ → List ℕ → Option (ℕ × ℕ)
+number_of at [] = None
+number_of at (c ∷ cs) = cond (eqb c 32) None (digits_of 0 at (c ∷ cs))
 
 unfoldable pub newlines : List ℕ → ℕ
 newlines [] = 0
@@ -63,36 +65,25 @@ newlines (x ∷ xs) = cond (eqb x 10) (suc (newlines xs)) (newlines xs)
 unfoldable pub line_number_of : List ℕ → ℕ → ℕ
 line_number_of t i = 1 + newlines (take i t)
 
-module _ (t : List ℕ) (i : ℕ) where
-  pub end_here : i < length t → get_or t i 0 ≡ 10 → i ≡ i + end_of (drop i t)
-  unfolding end_of
-  end_here h e = rw (drop-next t i h, eq-eqb _ _ e) (omega arith)
+pub end_is : (t : List ℕ) → end_of t ≡ position_or_len (λ (x : ℕ). eqb x 10) t
+unfolding end_of
+end_is t = is_position_or_len end_of (λ (x : ℕ). eqb x 10) refl (λ x xs. rw one-add) t
 
-  pub end_next : i < length t → (get_or t i 0 ≡ 10 → ⊥) → i + end_of (drop i t) ≡ i + 1 + end_of (drop (i + 1) t)
-  unfolding end_of
-  end_next h e = rw (drop-next t i h, ne_eqb _ _ e) (omega arith)
+eqb_turned : (a b : ℕ) → eqb a b ≡ eqb b a
+eqb_turned a b = grind (arith, nat_tests)
 
-  pub end_over : length t ≤ i → i ≡ i + end_of (drop i t)
-  unfolding end_of
-  end_over h = rw (drop_of_length-le t h) (omega arith)
+-- the library's tests of a line's first word
+pub starts_is : (w l : List ℕ) → pointwise eqb w (take (length w) l) ≡ starts_with w l
+unfolding starts_with
+starts_is [] l = refl
+starts_is (w ∷ ws) [] = refl
+starts_is (w ∷ ws) (x ∷ xs) = ap₂ (λ (a b : Bool). a && b) (eqb_turned w x) (starts_is ws xs)
 
-module _ (w l : List ℕ) (i : ℕ) where
-  pub starts_out : i < length w → length l ≤ i → starts_with (drop i w) (drop i l) ≡ false
-  unfolding starts_with
-  starts_out h k = rw (drop-next w i h, drop_of_length-le l k)
-
-  pub starts_other : i < length w → i < length l → (get_or l i 0 ≡ get_or w i 0 → ⊥) → starts_with (drop i w) (drop i l) ≡ false
-  unfolding starts_with
-  starts_other h k e = rw (drop-next w i h, drop-next l i k, ne_eqb _ _ e)
-
-  pub starts_next : i < length w → i < length l → get_or l i 0 ≡ get_or w i 0
-      → starts_with (drop i w) (drop i l) ≡ starts_with (drop (i + 1) w) (drop (i + 1) l)
-  unfolding starts_with
-  starts_next h k e = rw (drop-next w i h, drop-next l i k, eq-eqb _ _ e)
-
-  pub starts_over : length w ≤ i → starts_with (drop i w) (drop i l) ≡ true
-  unfolding starts_with
-  starts_over h = rw (drop_of_length-le w h)
+pub strip_is : (w l : List ℕ) → pointwise eqb (take (length w) l) w ≡ starts_with w l
+unfolding starts_with
+strip_is [] l = refl
+strip_is (w ∷ ws) [] = refl
+strip_is (w ∷ ws) (x ∷ xs) = ap (λ (b : Bool). eqb x w && b) (strip_is ws xs)
 
 pub starts_long : (w l : List ℕ) → starts_with w l ≡ true → length w ≤ length l
 unfolding starts_with
@@ -105,37 +96,32 @@ starts_long (w ∷ ws) (x ∷ xs) e = of (eqb x w) (starts_long ws xs) e
     of false ih f = let z : ◌≡◌ {A = ℕ} 0 1 = cc in absurd (omega arith)
 
 module _ (v : ℕ) (t : List ℕ) (i : ℕ) where
-  pub digits_over : length t ≤ i → digits_of v i (drop i t) ≡ Found v (i + 1)
+  pub digits_over : length t ≤ i → digits_of v i (drop i t) ≡ Some (v, i + 1)
   unfolding digits_of
   digits_over h = rw (drop_of_length-le t h)
 
   module _ (h : i < length t) where
-    pub digits_space : get_or t i 0 ≡ 32 → digits_of v i (drop i t) ≡ Found v (i + 1)
+    pub digits_space : get_or t i 0 ≡ 32 → digits_of v i (drop i t) ≡ Some (v, i + 1)
     unfolding digits_of
     digits_space e = rw (drop-next t i h, eq-eqb _ _ e)
 
-    pub digits_low : (get_or t i 0 ≡ 32 → ⊥) → get_or t i 0 < 48 → digits_of v i (drop i t) ≡ Malformed
+    pub digits_bad : (get_or t i 0 ≡ 32 → ⊥) → (48 ≤ get_or t i 0 → get_or t i 0 ≤ 57 → 1000000 ≤ v) → digits_of v i (drop i t) ≡ None
     unfolding digits_of
-    digits_low e a = rw (drop-next t i h, ne_eqb _ _ e, lt-leb _ _ a)
-
-    pub digits_high : (get_or t i 0 ≡ 32 → ⊥) → 48 ≤ get_or t i 0 → 57 < get_or t i 0 → digits_of v i (drop i t) ≡ Malformed
-    unfolding digits_of
-    digits_high e a b = rw (drop-next t i h, ne_eqb _ _ e, le-leb _ _ a, lt-leb _ _ b)
-
-    pub digits_large : (get_or t i 0 ≡ 32 → ⊥) → 48 ≤ get_or t i 0 → get_or t i 0 ≤ 57 → 1000000 ≤ v → digits_of v i (drop i t) ≡ Malformed
-    unfolding digits_of
-    digits_large e a b d = rw (drop-next t i h, ne_eqb _ _ e, le-leb _ _ a, le-leb _ _ b, le-ltb _ _ d)
+    digits_bad e a =
+        let c = get_or t i 0 in
+        let q : (leb 48 c && (leb c 57 && ltb v 1000000)) ≡ false = grind (arith, nat_tests) in
+        rw (drop-next t i h, ne_eqb _ _ e, q)
 
     pub digits_next : (get_or t i 0 ≡ 32 → ⊥) → 48 ≤ get_or t i 0 → get_or t i 0 ≤ 57 → v < 1000000
         → digits_of v i (drop i t) ≡ digits_of (v * 10 + (get_or t i 0 - 48)) (i + 1) (drop (i + 1) t)
     unfolding digits_of
     digits_next e a b d = rw (drop-next t i h, ne_eqb _ _ e, le-leb _ _ a, le-leb _ _ b, lt-ltb _ _ d)
 
-pub number_out : (t : List ℕ) (i : ℕ) → length t ≤ i → number_of i (drop i t) ≡ Malformed
+pub number_out : (t : List ℕ) (i : ℕ) → length t ≤ i → number_of i (drop i t) ≡ None
 unfolding number_of
 number_out t i h = rw (drop_of_length-le t h)
 
-pub number-space : (t : List ℕ) (i : ℕ) → i < length t → get_or t i 0 ≡ 32 → number_of i (drop i t) ≡ Malformed
+pub number-space : (t : List ℕ) (i : ℕ) → i < length t → get_or t i 0 ≡ 32 → number_of i (drop i t) ≡ None
 unfolding number_of
 number-space t i h e = rw (drop-next t i h, eq-eqb _ _ e)
 
@@ -151,6 +137,14 @@ end_within (x ∷ xs) = of (eqb x 10) (end_within xs)
     of : (b : Bool) → end_of xs ≤ length xs → cond b 0 (suc (end_of xs)) ≤ suc (length xs)
     of true h = omega arith
     of false h = omega arith
+
+-- the library's first newline of a text
+pub end_found : (t : List ℕ) → unwrap_or (position (λ (x : ℕ). eqb x 10) t) (length t) ≡ end_of t
+end_found t = rw (sym (end_is t)) (of (ltb (end_of t) (length t)) refl)
+  where
+    of : (b : Bool) → ltb (end_of t) (length t) ≡ b → unwrap_or (cond b (Some (end_of t)) None) (length t) ≡ end_of t
+    of true q = refl
+    of false q = let w = end_within t in omega (arith, ltb-false _ _ q)
 
 -- of a text that is not empty
 lines_first : (t : List ℕ) → 0 < length t → lines_in t ≡ take (end_of t) t ∷ lines_in (drop (suc (end_of t)) t)
@@ -192,30 +186,9 @@ pub lines_over : (t : List ℕ) (at : ℕ) → length t ≤ at → lines_in (dro
 unfolding lines_in
 lines_over t at h = rw (drop_of_length-le t h)
 
--- newlines before a place, from a place i on
-module _ (t : List ℕ) (i place : ℕ) where
-  pub count-newline : i < length t → i < place → get_or t i 0 ≡ 10 → newlines (take (place - i) (drop i t)) ≡ suc (newlines (take (place - (i + 1)) (drop (i + 1) t)))
-  unfolding newlines
-  count-newline h k e =
-      let q : place - i ≡ suc (place - (i + 1)) = omega arith in
-      rw (drop-next t i h, q, eq-eqb _ _ e)
-
-  pub count-other : i < length t → i < place → (get_or t i 0 ≡ 10 → ⊥) → newlines (take (place - i) (drop i t)) ≡ newlines (take (place - (i + 1)) (drop (i + 1) t))
-  unfolding newlines
-  count-other h k e =
-      let q : place - i ≡ suc (place - (i + 1)) = omega arith in
-      rw (drop-next t i h, q, ne_eqb _ _ e)
-
-  pub count_there : place ≤ i → newlines (take (place - i) (drop i t)) ≡ 0
-  unfolding newlines
-  count_there h = let q : place - i ≡ 0 = omega arith in rw q
-
-  pub count-over : length t ≤ i → newlines (take (place - i) (drop i t)) ≡ 0
-  unfolding newlines
-  count-over h = rw (drop_of_length-le t h) (of (place - i))
-    where
-      of : (n : ℕ) → newlines (take n []) ≡ 0
-      of n = rw (take-nil n)
+pub newlines-count : (t : List ℕ) → newlines t ≡ count_by (λ (x : ℕ). eqb x 10) t
+unfolding newlines
+newlines-count t = is_count_by newlines (λ (x : ℕ). eqb x 10) refl (λ x xs. rw one-add) t
 
 pub line-number-one : (t : List ℕ) (place x y : ℕ) → x ≡ line_number_of t place → y ≡ line_number_of t place → x ≡ y
 line-number-one t place x y e f = e ∙ sym f

@@ -1,38 +1,33 @@
 // Hexadecimal digits into bytes and bits.
-ghost use Rattle.std.specs.Prelude.{◌≡◌, true, ◌*◌, ◌≤◌, ◌<◌, length, get_or, take, drop};
+ghost use Rattle.std.specs.Prelude.{◌≡◌, true, ◌+◌, ◌*◌, ◌≤◌, ◌<◌, length, get_or, take, drop, leb, is_some, MatchOption};
 ghost use Rattle.systems.specs.Digits.{nibble_of, are_digits, bytes_of, bits_in, clear};
 
-// The value of a digit, or 16.
-fn nibble(c: u8) -> u8
-    ensures { (result ≡ nibble_of c) × (result ≤ 16) }
+// The value of a digit, where it is one.
+#[tactic(auto, using(std::proofs::lemmas::Bool::Decides::nat_tests), unfolding(crate::specs::Digits::nibble_of))]
+fn nibble(c: u8) -> Option<u8>
+    ensures is { is_some result ≡ leb (nibble_of c) 15 }
+    ensures value { MatchOption result (nibble_of c ≡ 16) (λ d. (d ≡ nibble_of c) × (d < 16)) }
 {
-    if c < b'0' {
-        return 16;
+    match c {
+        b'0'..=b'9' => Some(c - b'0'),
+        b'a'..=b'f' => Some(c - b'a' + 10),
+        _ => None,
     }
-    if c <= b'9' {
-        return c - b'0';
-    }
-    if c < b'a' {
-        return 16;
-    }
-    if c <= b'f' {
-        return c - 87;
-    }
-    16
 }
 
 // Whether every byte is a digit.
 pub fn are_digits(digits: &[u8]) -> bool
     ensures { result ≡ are_digits digits.now }
 {
-    let mut i = 0;
-    while i < digits.len() {
-        if 15 < nibble(digits[i]) {
-            return false;
-        }
-        i += 1;
-    }
-    true
+    digits.iter().all(|c| nibble(*c).is_some())
+}
+
+// The byte that two digits say.
+fn byte(high: u8, low: u8) -> u8
+    requires { (nibble_of high < 16) × (nibble_of low < 16) }
+    ensures { result ≡ nibble_of high * 16 + nibble_of low }
+{
+    nibble(high).unwrap() * 16 + nibble(low).unwrap()
 }
 
 // The bytes of twice as many digits.
@@ -40,10 +35,8 @@ pub fn fill_bytes(digits: &[u8], out: &mut [u8])
     requires { (are_digits digits.now ≡ true) × (length digits.now ≡ 2 * length out.old) }
     ensures { out.new ≡ bytes_of digits.now }
 {
-    let mut i = 0;
-    while i < out.len() {
-        out[i] = nibble(digits[2 * i]) * 16 + nibble(digits[2 * i + 1]);
-        i += 1;
+    for (i, x) in out.iter_mut().enumerate() {
+        *x = byte(digits[2 * i], digits[2 * i + 1]);
     }
 }
 
@@ -52,18 +45,13 @@ fn bit(digits: &[u8], i: usize) -> u8
     requires { i < 4 * length digits.now }
     ensures { result ≡ get_or (bits_in digits.now) i 0 }
 {
-    let d = nibble(digits[i / 4]);
-    let k = i % 4;
-    if k == 0 {
-        return d / 8 % 2;
+    let d = nibble(digits[i / 4]).unwrap_or(0);
+    match i % 4 {
+        0 => d / 8 % 2,
+        1 => d / 4 % 2,
+        2 => d / 2 % 2,
+        _ => d % 2,
     }
-    if k == 1 {
-        return d / 4 % 2;
-    }
-    if k == 2 {
-        return d / 2 % 2;
-    }
-    d % 2
 }
 
 // The first bits of the digits, from the top.
@@ -71,10 +59,8 @@ pub fn fill_bits(digits: &[u8], out: &mut [u8])
     requires { length out.old ≤ 4 * length digits.now }
     ensures { out.new ≡ take (length out.old) (bits_in digits.now) }
 {
-    let mut i = 0;
-    while i < out.len() {
-        out[i] = bit(digits, i);
-        i += 1;
+    for (i, x) in out.iter_mut().enumerate() {
+        *x = bit(digits, i);
     }
 }
 
@@ -83,12 +69,10 @@ pub fn is_clear(digits: &[u8], from: usize) -> bool
     requires { 4 * length digits.now < 18446744073709551616 }
     ensures { result ≡ clear (drop from (bits_in digits.now)) }
 {
-    let mut i = from;
-    while i < 4 * digits.len() {
+    for i in from..4 * digits.len() {
         if bit(digits, i) != 0 {
             return false;
         }
-        i += 1;
     }
     true
 }

@@ -8,7 +8,7 @@ ghost use Rattle.systems.specs.Text.{lines_in, line_number_of};
 ghost use Rattle.systems.specs.Lined.{buffers};
 ghost use Rattle.systems.specs.Cases.{FoundAt, ended, rows_of, lines_of, outcome, read_of};
 
-use told::{Lines, Turn};
+use told::Turn;
 
 mod digits;
 mod rows;
@@ -18,13 +18,14 @@ mod words;
 pub use told::{Place, Read, System};
 
 // Where the first `case` line from a line's beginning on begins, or a place past the text.
+#[tactic(auto, using(crate::specs::Text::line_ends))]
 fn find(text: &[u8], from: usize) -> usize
     ensures { FoundAt text.now from result }
 {
     let mut at = from;
     while at < text.len() {
         let end = words::line_end(text, at);
-        if words::starts(&text[at..end], b"case ") {
+        if text[at..end].starts_with(b"case ") {
             return at;
         }
         at = end + 1;
@@ -32,7 +33,9 @@ fn find(text: &[u8], from: usize) -> usize
     at
 }
 
-// The lines of a case after its `sys` line.
+// No struct holds the three buffers: each kind of line writes one of them, and the caller lends them one by one.
+// The lines of a case after its `sys` line: the case and where the text goes on, or where the line begins that has no place in it.
+#[tactic(auto, using(crate::specs::Text::line_ends))]
 fn read_rows(
     text: &[u8],
     from: usize,
@@ -40,47 +43,45 @@ fn read_rows(
     bits: &mut [u8],
     octets: &mut [u8],
     slab: &mut [u8],
-) -> Lines
+) -> Result<(System, usize), usize>
     ensures { ended result (buffers bits.new octets.new slab.new) ≡ rows_of (lines_in (drop from text.now)) from first (buffers bits.old octets.old slab.old) }
 {
     let mut s = first;
     let mut at = from;
     while at < text.len() {
         let end = words::line_end(text, at);
-        match rows::read_line(&text[at..end], s, bits, octets, slab) {
+        match rows::read_line(&text[at..end], s, bits, octets, slab).ok_or(at)? {
             Turn::On(next) => {
                 s = next;
                 at = end + 1;
             }
-            Turn::Go => return Lines::Done(s, end + 1),
-            Turn::Malformed => return Lines::Malformed(at),
+            Turn::Go => return Ok((s, end + 1)),
         }
     }
-    Lines::Malformed(at)
+    Err(at)
 }
 
-// The lines of a case after its name.
+// The same of the lines after its name.
+#[tactic(auto, using(crate::specs::Text::line_ends))]
 fn read_lines(
     text: &[u8],
     from: usize,
     bits: &mut [u8],
     octets: &mut [u8],
     slab: &mut [u8],
-) -> Lines
+) -> Result<(System, usize), usize>
     ensures { ended result (buffers bits.new octets.new slab.new) ≡ lines_of (lines_in (drop from text.now)) from (buffers bits.old octets.old slab.old) }
 {
     if text.len() <= from {
-        return Lines::Malformed(from);
+        return Err(from);
     }
     let end = words::line_end(text, from);
-    match rows::read_head(&text[from..end]) {
-        Turn::On(s) => read_rows(text, end + 1, s, bits, octets, slab),
-        Turn::Go => Lines::Malformed(from),
-        Turn::Malformed => Lines::Malformed(from),
-    }
+    let s = rows::read_head(&text[from..end]).ok_or(from)?;
+    read_rows(text, end + 1, s, bits, octets, slab)
 }
 
 // The first case from a place on, its matrix, octet rows and slab put at the front of the buffers.
+#[tactic(auto, using(crate::specs::Text::line_ends))]
 pub fn read(text: &[u8], from: usize, bits: &mut [u8], octets: &mut [u8], slab: &mut [u8]) -> Read
     ensures { outcome result (buffers bits.new octets.new slab.new) ≡ read_of text.now from (buffers bits.old octets.old slab.old) }
 {
@@ -90,7 +91,7 @@ pub fn read(text: &[u8], from: usize, bits: &mut [u8], octets: &mut [u8], slab: 
     }
     let end = words::line_end(text, at);
     match read_lines(text, end + 1, bits, octets, slab) {
-        Lines::Done(s, next) => Read::Case(
+        Ok((s, next)) => Read::Case(
             s,
             Place {
                 from: at,
@@ -98,7 +99,7 @@ pub fn read(text: &[u8], from: usize, bits: &mut [u8], octets: &mut [u8], slab: 
                 next,
             },
         ),
-        Lines::Malformed(next) => Read::Malformed(Place {
+        Err(next) => Read::Malformed(Place {
             from: at,
             end,
             next,
@@ -110,16 +111,6 @@ pub fn read(text: &[u8], from: usize, bits: &mut [u8], octets: &mut [u8], slab: 
 pub fn line_number(text: &[u8], place: usize) -> usize
     ensures { result ≡ line_number_of text.now place }
 {
-    let mut n = 1;
-    let mut i = 0;
-    while i < text.len() {
-        if place <= i {
-            return n;
-        }
-        if text[i] == b'\n' {
-            n += 1;
-        }
-        i += 1;
-    }
-    n
+    let before = &text[..place.min(text.len())];
+    1 + before.iter().filter(|b| **b == b'\n').count()
 }

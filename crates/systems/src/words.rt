@@ -1,83 +1,38 @@
-// Lines, words and numbers of a text.
+// Lines and numbers of a text.
 ghost use Rattle.std.specs.Prelude.{◌≡◌, ◌+◌, ◌≤◌, length, drop};
-ghost use Rattle.systems.specs.Text.{end_of, starts_with, digits_of, number_of};
-
-use crate::told::Number;
+ghost use Rattle.systems.specs.Text.{end_of, digits_of, number_of};
 
 // Where the line ends that begins at `from`.
 pub fn line_end(text: &[u8], from: usize) -> usize
+    requires { from ≤ length text.now }
     ensures { result ≡ from + end_of (drop from text.now) }
 {
-    let mut i = from;
-    while i < text.len() {
-        if text[i] == b'\n' {
-            return i;
-        }
-        i += 1;
-    }
-    i
+    let rest = &text[from..];
+    from + rest.iter().position(|b| *b == b'\n').unwrap_or(rest.len())
 }
 
-// Whether a line starts with a word.
-pub fn starts(line: &[u8], word: &[u8]) -> bool
-    ensures { result ≡ starts_with word.now line.now }
-{
-    let mut i = 0;
-    while i < word.len() {
-        if line.len() <= i {
-            return false;
-        }
-        if line[i] != word[i] {
-            return false;
-        }
-        i += 1;
-    }
-    true
-}
-
-// The byte as a number of the machine's size.
-fn wide(x: u8) -> usize
-    ensures { result ≡ x }
-{
-    x as usize
-}
-
-// The number that the digits up to a space or the line's end say.
-fn read_digits(line: &[u8], from: usize) -> Number
+// The number that the digits up to a space or the line's end say, and where the line goes on.
+fn read_digits(line: &[u8], from: usize) -> Option<(usize, usize)>
     requires { from ≤ length line.now }
     ensures { result ≡ digits_of 0 from (drop from line.now) }
 {
     let mut value = 0;
-    let mut i = from;
-    while i < line.len() {
-        let c = line[i];
-        if c == b' ' {
-            return Number::Found(value, i + 1);
+    for i in from..line.len() {
+        match line[i] {
+            b' ' => return Some((value, i + 1)),
+            c @ b'0'..=b'9' if value < 1000000 => value = value * 10 + usize::from(c - b'0'),
+            _ => return None,
         }
-        if c < b'0' {
-            return Number::Malformed;
-        }
-        if b'9' < c {
-            return Number::Malformed;
-        }
-        if 1000000 <= value {
-            return Number::Malformed;
-        }
-        value = value * 10 + wide(c - b'0');
-        i += 1;
     }
-    Number::Found(value, i + 1)
+    Some((value, line.len() + 1))
 }
 
 // The number from a place of a line on, and where the line goes on.
-pub fn read_number(line: &[u8], from: usize) -> Number
+pub fn read_number(line: &[u8], from: usize) -> Option<(usize, usize)>
     ensures { result ≡ number_of from (drop from line.now) }
 {
-    if line.len() <= from {
-        return Number::Malformed;
-    }
-    if line[from] == b' ' {
-        return Number::Malformed;
+    if line.len() <= from || line[from] == b' ' {
+        return None;
     }
     read_digits(line, from)
 }

@@ -1,5 +1,5 @@
 -- The journal of a phase: a list room with its sticky count, and the additions and multiplications recorded since the phase began.
---   Book, book       a journal; that of a room's words and a tally
+--   Book, book, book_of   a journal; that of a room's words and a tally; that of the code's room and tally
 --   note             one operation more: where there is room its word is stored and the counts grow by what it asks; where there is none, the
 --                    number of those used becomes one above the room, and nothing else changes
 --   stored, full     what a note makes of a journal: where there is room, and where there is none
@@ -7,7 +7,7 @@
 --   Noted            a journal is another with one operation more
 --   noted_one        two outcomes that meet it are equal
 --   Fair             no count is above the number of those used, which is at most one above the room: so no sum wraps
---   afresh, anew     the counts begin anew, in a tally and in a journal
+--   anew             the counts begin anew
 --   note_fits, note-full   a note where there is room, and where there is none
 --   logged           the room and its count alone
 --   logged-note, logged-notes   they are what the list room's own laws say
@@ -23,6 +23,7 @@ use Rattle.oplist.specs.declared.Op.{Op}
 use Rattle.oplist.specs.Word.{packed}
 use Rattle.oplist.specs.Count.{adds_in, muls_in, adds, muls, adds_in-one, muls_in-one}
 use Rattle.tally.specs.declared.Tally.{Tally}
+use Rattle.tally.specs.declared.Journal.{Journal}
 
 pub record Book : Type 0 where
   pub words : List ℕ
@@ -32,6 +33,9 @@ pub record Book : Type 0 where
 
 abbrev pub book : List ℕ → Tally → Book
 book ws t = record { words = ws; used = t.used; adds = t.adds; muls = t.muls }
+
+abbrev pub book_of : Journal → Book
+book_of j = book j.room.now j.tally
 
 abbrev pub pick_book : Bool → Book → Book → Book
 pick_book true a b = a
@@ -63,9 +67,6 @@ pub record Fair (g : Book) : Type 0 where
   pub adds_few : g.adds ≤ g.used
   pub muls_few : g.muls ≤ g.used
   pub used_few : g.used ≤ length g.words + 1
-
-abbrev pub afresh : Tally → Tally
-afresh t = record { used = t.used; adds = 0; muls = 0 }
 
 abbrev pub anew : Book → Book
 anew g = record { words = g.words; used = g.used; adds = 0; muls = 0 }

@@ -8,7 +8,7 @@ use Rattle.bounds.specs.Bounds.{most_rows, most_bytes, most_ops}
 use Rattle.oplist.specs.Check.{list_fine}
 use Rattle.oplist.specs.Listed.{ops_of}
 use Rattle.algebra.specs.Flat.{acts}
-use Rattle.call.specs.declared.Shape.{Shape}
+use Rattle.grid.specs.declared.shapes.Shape.{Shape}
 use Rattle.call.specs.Over.{keep}
 
 pub record Settling (m l t n : ℕ) (list slab : List ℕ) : Type 0 where

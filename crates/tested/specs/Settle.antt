@@ -3,7 +3,7 @@
 --   settling_is      what the run left is such a list
 --   ended_is         the buffers after that are those of the definition
 -- Assumes nothing.
-use Rattle.std.specs.Prelude.{◌≡◌, false, List, map, ℕ, ◌-◌, ◌*◌, take, drop}
+use Rattle.std.specs.Prelude.{◌≡◌, false, List, map, ℕ, ◌-◌, ◌*◌, take, drop, Ok}
 use Rattle.std.proofs.Common.{ap, ◌∙◌, arith}
 use Rattle.std.proofs.Math.Bool.{true}
 use borrow.Author.Tests.{le-leb, eq-eqb}
@@ -13,13 +13,12 @@ use Rattle.oplist.specs.Word.{packed}
 use Rattle.oplist.specs.Listed.{ops_of}
 use Rattle.oplist.specs.Check.{shape_fine, list_fine, order_fine}
 use Rattle.oplist.specs.Facts.{shape-shape_fine}
-use Rattle.symbol_slab.specs.declared.Answer.{Answer as Replayed}
-use Rattle.symbol_slab.specs.declared.Answer.TheVariants.{InPlace}
-use Rattle.symbol_slab.specs.Replay.{slab_shaped, checked, Outcome as Replay, outcome as replay, replayed}
+use Rattle.symbol_slab.specs.declared.Place.TheVariants.{InPlace}
+use Rattle.symbol_slab.specs.Replay.{Answer as Replayed, slab_shaped, checked, Outcome as Replay, outcome as replay, replayed}
 use Rattle.algebra.specs.Flat.{Bytes, acts}
 use Rattle.phases.specs.Run.{Answer as Told}
-use Rattle.call.specs.declared.Shape.{Shape}
-use Rattle.answers.specs.declared.Answer.{Answer}
+use Rattle.grid.specs.declared.shapes.Shape.{Shape}
+use Rattle.answers.specs.Answers.{Answer}
 use Rattle.call.specs.Over.{over, over_same}
 use Rattle.call.specs.Call.{Working, buffers, outcome, ended, told}
 use Rattle.ending.specs.Ran.{as_shape, Posed, ops_in}
@@ -31,7 +30,7 @@ module _ {m l t n : ℕ} {list slab : List ℕ} (s : Settling m l t n list slab)
   front : take (n - 0) (drop 0 list) ≡ take n list
   front = let e : n - 0 ≡ n = omega arith in ap (λ (k : ℕ). take k list) e
 
-  replay_is : (xs : List ℕ) → replayed m l t (take n list) false xs slab ≡ replay InPlace (acts t (ops_of (take n list)) slab)
+  replay_is : (xs : List ℕ) → replayed m l t (take n list) false xs slab ≡ replay (Ok InPlace) (acts t (ops_of (take n list)) slab)
   unfolding replayed checked slab_shaped order_fine
   replay_is xs =
       let k : length (take n list) ≡ n = length-take-le n list s.within in

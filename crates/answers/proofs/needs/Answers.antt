@@ -2,7 +2,7 @@
 use Rattle.std.proofs.Common.{◌≤◌, arith}
 use mathlib.Core.Path.{ap}
 use borrow.Author.Tests.{le-leb, lt-leb}
-use Rattle.answers.specs.declared.Need.TheVariants.{Entries}
+use Rattle.std.specs.Prelude.{Ok}
 use Rattle.answers.specs.Rooms.{need_of, need_met}
 use Rattle.answers.proofs.needs.Goals as goal
 
@@ -21,4 +21,4 @@ unfolding need_of
 returns c =
     let some : 1 ≤ c.args.l = omega arith in
     need_met (rw (le-leb _ _ some, le-leb _ _ c.if-m-l.false, le-leb _ _ c.if-m-gt-MOST_ROWS.false)
-    (ap Entries c.rooms_for.ensures))
+    (ap Ok c.rooms_for.ensures))

@@ -1,11 +1,6 @@
--- `choice::biggest` meets its contract. Assumes nothing.
 use Rattle.choice.specs.Sizes.{Growing}
 use Rattle.figures.specs.Told.{told}
-use Prim.Native.Nat.{◌-◌}
 use Rattle.choice.proofs.biggest.Given as goal
 
 abbrev pub invariant-loop-c : goal.invariant-loop-c
 invariant-loop-c l = Growing (told l.labels) l.v l.n l.b l.c
-
-abbrev pub decreases-loop-c : goal.decreases-loop-c
-decreases-loop-c l = l.n - l.c

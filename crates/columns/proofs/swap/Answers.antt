@@ -1,8 +1,7 @@
 -- `columns::swap` meets its contract. Assumes nothing.
-use Rattle.columns.specs.Exchange.{swapped}
-use borrow.Author.Rules.{rules}
+use mathlib.Core.Path.{◌∙◌}
+use Rattle.columns.specs.Exchange.{swapped-is}
 use Rattle.columns.proofs.swap.Goals as goal
 
 pub returns : goal.returns
-unfolding swapped
-returns c = search rules
+returns c = c.swap.ensures.after ∙ swapped-is c.args.d.now c.args.i c.args.j c.requires.0 c.requires.1

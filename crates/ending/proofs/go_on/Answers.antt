@@ -1,5 +1,6 @@
 -- `go_on` meets its contract. Assumes nothing.
 use mathlib.Core.Path.{◌∙◌}
+use Rattle.second.specs.Whole.{reduced_length}
 use Rattle.ending.specs.After.{prepared_is}
 use Rattle.ending.specs.Then.{reached_is, stuck_is}
 use Rattle.ending.specs.Ends.{blank-room}
@@ -13,7 +14,7 @@ pub finish-requires : goal.finish-requires
 finish-requires c =
     record {
       posed = c.requires.posed;
-      reached = reached_is _ _ _ c.requires.posed (λ i. (c.shared_slice_known-1.given i).fits) (λ i. (c.shared_slice_known-2-1.given i).fits) _ _ _ _ _ c.requires.first c.requires.going.held _ _ _ c.in-Done.is c.phase_two.ensures c.phase_two.auto.list;
+      reached = reached_is _ _ _ c.requires.posed (λ i. (c.shared_slice_known-1.given i).fits) (λ i. (c.shared_slice_known-2-1.given i).fits) _ _ _ _ _ c.requires.first c.requires.going.held _ _ _ c.in-Ok.is c.phase_two.ensures.reduced;
       placed = record {
         columns_size = c.requires.going.columns_size;
         rows-size = c.phase_two.auto.d ∙ c.requires.going.rows-size;
@@ -23,23 +24,32 @@ finish-requires c =
       };
     }
 
-pub returns-then-list-used : goal.returns-then-list-used
-returns-then-list-used c =
-    let S = stuck_is _ _ _ c.requires.posed (λ i. (c.shared_slice_known-1.given i).fits) (λ i. (c.shared_slice_known-2-1.given i).fits) _ _ _ _ _ c.requires.first c.requires.going.held _ _ _ c.in-Singular.is c.phase_two.ensures c.phase_two.auto.list in
-    stuck_full _ _ _ c.requires.posed (λ i. (c.shared_slice_known-1.given i).fits) (λ i. (c.shared_slice_known-2-1.given i).fits) _ _ _ _ _ _ _ S c.requires.going.columns_size (c.phase_two.auto.d ∙ c.requires.going.rows-size) _ _ c.phase_two.auto.list c.if-list-used.true c.requires.going.order-blank c.requires.going.vector_blank
+pub returns-then-journal-used-clause-ran : goal.returns-then-journal-used-clause-ran
+returns-then-journal-used-clause-ran c =
+    let S = stuck_is _ _ _ c.requires.posed (λ i. (c.shared_slice_known-1.given i).fits) (λ i. (c.shared_slice_known-2-1.given i).fits) _ _ _ _ _ c.requires.first c.requires.going.held _ _ _ c.in-Err.is c.phase_two.ensures.reduced in
+    stuck_full _ _ _ c.requires.posed (λ i. (c.shared_slice_known-1.given i).fits) (λ i. (c.shared_slice_known-2-1.given i).fits) _ _ _ _ _ _ _ S c.requires.going.columns_size (c.phase_two.auto.d ∙ c.requires.going.rows-size) _ _ (reduced_length c.phase_two.ensures.reduced) c.if-journal-used.true c.requires.going.order-blank c.requires.going.vector_blank
 
 pub vector_of-requires : goal.vector_of-requires
 vector_of-requires c =
-    let S = stuck_is _ _ _ c.requires.posed (λ i. (c.shared_slice_known-1.given i).fits) (λ i. (c.shared_slice_known-2-1.given i).fits) _ _ _ _ _ c.requires.first c.requires.going.held _ _ _ c.in-Singular.is c.phase_two.ensures c.phase_two.auto.list in
+    let S = stuck_is _ _ _ c.requires.posed (λ i. (c.shared_slice_known-1.given i).fits) (λ i. (c.shared_slice_known-2-1.given i).fits) _ _ _ _ _ c.requires.first c.requires.going.held _ _ _ c.in-Err.is c.phase_two.ensures.reduced in
     record {
       singular = valuing_is _ _ _ c.requires.posed (λ i. (c.shared_slice_known-1.given i).fits) (λ i. (c.shared_slice_known-2-1.given i).fits) _ _ _ _ _ _ _ S c.requires.going.columns_size (c.phase_two.auto.d ∙ c.requires.going.rows-size) (c.phase_two.auto.work ∙ c.requires.going.work_size);
       blank = blank-room _ _ c.requires.going.vector_room c.requires.going.vector_blank;
     }
 
-pub returns-in-Done : goal.returns-in-Done
-returns-in-Done c = ending_ran _ _ _ c.phase_two.auto.list c.finish.ensures c.requires.going.vector_blank
+pub returns-in-Ok-clause-ran : goal.returns-in-Ok-clause-ran
+returns-in-Ok-clause-ran c = ending_ran _ _ _ (reduced_length c.phase_two.ensures.reduced) c.finish.ensures.ending c.requires.going.vector_blank
 
-pub returns-else-list-used : goal.returns-else-list-used
-returns-else-list-used c =
-    let S = stuck_is _ _ _ c.requires.posed (λ i. (c.shared_slice_known-1.given i).fits) (λ i. (c.shared_slice_known-2-1.given i).fits) _ _ _ _ _ c.requires.first c.requires.going.held _ _ _ c.in-Singular.is c.phase_two.ensures c.phase_two.auto.list in
-    stuck_ending _ _ _ c.requires.posed (λ i. (c.shared_slice_known-1.given i).fits) (λ i. (c.shared_slice_known-2-1.given i).fits) _ _ _ _ _ _ _ S c.requires.going.columns_size (c.phase_two.auto.d ∙ c.requires.going.rows-size) _ _ _ c.phase_two.auto.list c.if-list-used.false c.requires.going.order-blank c.requires.going.vector_blank c.requires.going.vector_room c.vector_of.ensures
+pub returns-else-journal-used-clause-ran : goal.returns-else-journal-used-clause-ran
+returns-else-journal-used-clause-ran c =
+    let S = stuck_is _ _ _ c.requires.posed (λ i. (c.shared_slice_known-1.given i).fits) (λ i. (c.shared_slice_known-2-1.given i).fits) _ _ _ _ _ c.requires.first c.requires.going.held _ _ _ c.in-Err.is c.phase_two.ensures.reduced in
+    stuck_ending _ _ _ c.requires.posed (λ i. (c.shared_slice_known-1.given i).fits) (λ i. (c.shared_slice_known-2-1.given i).fits) _ _ _ _ _ _ _ S c.requires.going.columns_size (c.phase_two.auto.d ∙ c.requires.going.rows-size) _ _ _ (reduced_length c.phase_two.ensures.reduced) c.if-journal-used.false c.requires.going.order-blank c.requires.going.vector_blank c.requires.going.vector_room c.vector_of.ensures
+
+pub returns-then-journal-used-clause-long : goal.returns-then-journal-used-clause-long
+returns-then-journal-used-clause-long c = reduced_length c.phase_two.ensures.reduced
+
+pub returns-in-Ok-clause-long : goal.returns-in-Ok-clause-long
+returns-in-Ok-clause-long c = c.finish.ensures.long ∙ reduced_length c.phase_two.ensures.reduced
+
+pub returns-else-journal-used-clause-long : goal.returns-else-journal-used-clause-long
+returns-else-journal-used-clause-long c = reduced_length c.phase_two.ensures.reduced

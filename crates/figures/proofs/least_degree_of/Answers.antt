@@ -1,46 +1,34 @@
 -- `figures::least_degree_of` meets its contract. Assumes nothing.
-use Rattle.figures.specs.Least.{light_first, light_skip, light_less, light_more, light_end}
-use Rattle.figures.specs.Told.{told}
-use borrow.Author.Tests.{eq-eqb, ne_eqb}
 use lib.Dec.{eqb}
-use Prim.Native.Nat.{◌-◌}
-use native.Mathlib.Omega.{arith}
+use Rattle.std.proofs.Common.{rules, tests, ap, ◌∙◌}
+use Rattle.std.proofs.lemmas.Iterator.{YieldsList-from_slice}
+use Rattle.std.proofs.lemmas.Iterator.Adapters.{serves_from_places}
+use Rattle.std.proofs.lemmas.Iterator.Consumers.{YieldsList-from_copied, YieldsList-from_filter}
+use Rattle.rule.specs.Lists.{head_least}
+use Rattle.grid.specs.Grid.{under_item, passing}
+use Rattle.figures.specs.Told.{told}
+use Rattle.figures.specs.Picked.{asks_from_places, least_kept, passing_under}
 use Rattle.figures.proofs.least_degree_of.Goals as goal
-use Rattle.figures.proofs.least_degree_of.Goals.{then-ones-x+then-deg-x, then-ones-x+else-deg-x, else-ones-x}
 
-pub first_with-i-requires : goal.first_with-i-requires
-first_with-i-requires c = c.requires.under
+pub reduce-requires-clause-can : goal.reduce-requires-clause-can
+reduce-requires-clause-can c = (
+  tt,
+  tt,
+  serves_from_places (YieldsList-from_copied (YieldsList-from_slice c.args.e.now cc)) (λ x q r. search rules)
+      (λ x k h e. let u = under_item c.requires.under k h e in search rules),
+)
 
-pub loop-k-init : goal.loop-k-init
-loop-k-init c =
-    light_first (told c.args.deg.now) (λ y. eqb (told c.args.ones.now y) c.args.r) c.args.e.now c.first_with-i.ensures (rw c.first_with-i.ensures c.requires.e_in_bounds) c.requires.under_2
-
-pub offset_bounds-ones-x : goal.offset_bounds-ones-x
-offset_bounds-ones-x c = omega (arith, c.requires.under.at c.loop-k.k c.loop-k-test.true)
-
-pub bounds-ones-x : goal.bounds-ones-x
-bounds-ones-x c = omega (arith, c.requires.under.at c.loop-k.k c.loop-k-test.true)
-
-pub offset_bounds-deg-x : goal.offset_bounds-deg-x
-offset_bounds-deg-x c = omega (arith, c.requires.under_2.at c.loop-k.k c.loop-k-test.true)
-
-pub bounds-deg-x : goal.bounds-deg-x
-bounds-deg-x c = omega (arith, c.requires.under_2.at c.loop-k.k c.loop-k-test.true)
-
-pub offset_bounds-deg-b : goal.offset_bounds-deg-b
-offset_bounds-deg-b c = omega (arith, c.loop-k.invariant.low)
-
-pub bounds-deg-b : goal.bounds-deg-b
-bounds-deg-b c = omega (arith, c.loop-k.invariant.low)
-
-pub loop-k-preserved : goal.loop-k-preserved
-loop-k-preserved c =
-    elim c.if-ones-x.branch [
-      | then-ones-x+then-deg-x w ↦
-          rw w.b-is (light_less c.loop-k.invariant c.loop-k-test.true (eq-eqb _ _ w.if-ones-x.true) (c.requires.under_2.at c.loop-k.k c.loop-k-test.true) w.if-deg-x.true)
-      | then-ones-x+else-deg-x w ↦ rw w.b-is (light_more c.loop-k.invariant c.loop-k-test.true (eq-eqb _ _ w.if-ones-x.true) w.if-deg-x.false)
-      | else-ones-x w ↦ rw w.b-is (light_skip c.loop-k.invariant c.loop-k-test.true (ne_eqb _ _ w.if-ones-x.false))
-    ]
+pub reduce-requires-clause-callable : goal.reduce-requires-clause-callable
+reduce-requires-clause-callable c =
+    asks_from_places _ _ (told c.args.deg.now) (λ b x r q k. search rules)
+    (YieldsList-from_filter _ (λ y. eqb (told c.args.ones.now y) c.args.r) (YieldsList-from_copied (YieldsList-from_slice c.args.e.now cc)) c.filter.ensures.closure
+    (λ x b q k. search (rules, tests)))
+    (passing_under (λ y. eqb (told c.args.ones.now y) c.args.r) c.args.e.now c.requires.under_2) (λ b x h k. search rules)
 
 pub returns : goal.returns
-returns c = light_end c.loop-k.invariant c.loop-k-test.false
+returns c =
+    least_kept _ _ (told c.args.deg.now) (λ b x r q k. search rules)
+    (YieldsList-from_filter _ (λ y. eqb (told c.args.ones.now y) c.args.r) (YieldsList-from_copied (YieldsList-from_slice c.args.e.now cc)) c.filter.ensures.closure
+    (λ x b q k. search (rules, tests)))
+    c.reduce.result c.reduce.ensures.ran
+    ∙ ap (head_least (told c.args.deg.now)) (passing (λ y. eqb (told c.args.ones.now y) c.args.r) c.args.e.now)

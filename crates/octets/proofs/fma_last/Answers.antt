@@ -4,18 +4,12 @@ use Prim.Native.Nat.{◌+◌, ◌-◌}
 use native.Mathlib.Omega.{arith}
 use lib.ListN.{length, get_or}
 use Rattle.octet.specs.Octet.{add}
-use Rattle.octets.specs.Spans.{span_start, span_next}
+use Rattle.octets.specs.Spans.{span_next}
 use Rattle.octets.proofs.fma_last.Goals as goal
-
-pub loop-j-init : goal.loop-j-init
-loop-j-init c = (omega arith, span_start (omega arith))
 
 pub loop-j-preserved : goal.loop-j-preserved
 unfolding add
 loop-j-preserved c =
     let l = c.loop-j in
     let d = c.args.dest.now in
-    (omega arith, span_next l.invariant.1 (omega arith) (omega arith) refl (ap (add (get_or d (length d - 16 + l.j) 0)) c.product.ensures))
-
-pub returns : goal.returns
-returns c = record { has = λ j h. c.loop-j.invariant.1.made j (omega arith) (omega arith) }
+    span_next l.invariant (omega arith) (omega arith) refl (ap (add (get_or d (length d - 16 + l.j) 0)) c.product.ensures)

@@ -1,6 +1,4 @@
--- `opening::first_marks` meets its contract: no labels, then the pairs, then the numbers. Assumes nothing.
-use mathlib.Core.Path.{refl}
-use native.Mathlib.Omega.{arith}
+use Rattle.std.proofs.Common.{refl, arith}
 use Rattle.opening.specs.Marks.{blank_ready, given_columns, given_long, given_upto, given_low, given_outside, given_marked}
 use Rattle.opening.proofs.first_marks.Goals as goal
 
@@ -13,9 +11,9 @@ pub by_least-requires : goal.by_least-requires
 by_least-requires c =
     let p = c.requires in
     let f = c.clear.ensures in
-    let m = c.add_twos.ensures in
+    let m = c.add_twos.ensures.marked in
     (given_upto p f m, given_low p f m, given_outside p f m)
 
-pub returns : goal.returns
-returns c =
-    given_marked c.requires c.clear.ensures c.add_twos.ensures c.by_least.ensures (omega arith) refl
+pub returns-clause-marked : goal.returns-clause-marked
+returns-clause-marked c =
+    given_marked c.requires c.clear.ensures c.add_twos.ensures.marked c.by_least.ensures.numbered (omega arith) refl

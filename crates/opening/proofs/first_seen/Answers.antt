@@ -1,9 +1,10 @@
--- `opening::first_seen` meets its contract. Assumes nothing.
-use Rattle.opening.specs.Marks.{seen-new, seen_old}
+use Rattle.opening.specs.Marks.{seen_first, seen_old}
 use Rattle.opening.proofs.first_seen.Goals as goal
-
-pub returns-then-v-eq0 : goal.returns-then-v-eq0
-returns-then-v-eq0 c = seen-new _ _ _ c.if-v-eq0.true
+use Rattle.opening.proofs.first_seen.Goals.{then-least-a-eq0, else-least-a-eq0}
 
 pub returns : goal.returns
-returns c = seen_old _ _ _ c.if-v-eq0.false
+returns c =
+    elim c.if-least-a-eq0.branch [
+      | then-least-a-eq0 w ↦ rw w.least-is (seen_first _ _ _ c.requires.0 w.if-least-a-eq0.true)
+      | else-least-a-eq0 w ↦ rw w.least-is (seen_old _ _ _ w.if-least-a-eq0.false)
+    ]

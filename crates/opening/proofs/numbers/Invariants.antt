@@ -1,12 +1,7 @@
--- `opening::numbers` meets its contract: the list is made from the front. Assumes nothing.
-use Prim.Native.Nat.{◌-◌}
-use lib.ListN.{length}
+use Rattle.std.proofs.Common.{length}
 use Rattle.loops.specs.Front.{Front}
 use Rattle.phases.specs.System.{range}
 use Rattle.opening.proofs.numbers.Given as goal
 
 abbrev pub invariant-loop-k : goal.invariant-loop-k
 invariant-loop-k l = Front (range 0 (length l.initial.s)) l.initial.s l.s l.k
-
-abbrev pub decreases-loop-k : goal.decreases-loop-k
-decreases-loop-k l = length l.initial.s - l.k

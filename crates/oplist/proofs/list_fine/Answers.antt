@@ -1,22 +1,14 @@
--- `oplist::list_fine` meets its contract: what is left to look at decides the same. Assumes nothing.
-use mathlib.Core.Path.{refl, sym, ap, ◌∙◌}
-use borrow.Author.Tests.{not-true, not-false}
-use lib.ListN.{drop_of_length-le}
-use Rattle.oplist.specs.Check.{list_fine}
-use Rattle.oplist.specs.Facts.{list_fine-drop}
+-- `oplist::list_fine` meets its contract: the chain looks at each word. Assumes nothing.
+use Rattle.std.proofs.Common.{rules, ◌∙◌}
+use borrow.Author.Tests.{tests}
+use Rattle.std.proofs.lemmas.Iterator.{YieldsList-from_slice}
+use Rattle.std.proofs.lemmas.Iterator.Search.{all_from_yields_List}
+use Rattle.oplist.specs.Word.{meaning}
+use Rattle.oplist.specs.Check.{word_fine}
+use Rattle.oplist.proofs.Chains.{list_fine_all}
 use Rattle.oplist.proofs.list_fine.Goals as goal
 
-pub loop-k-init : goal.loop-k-init
-loop-k-init c = refl
-
-pub returns-then-not-word_fine : goal.returns-then-not-word_fine
-returns-then-not-word_fine c =
-    sym (c.loop-k.invariant ∙ list_fine-drop _ _ _ c.loop-k-test.true ∙ rw (sym c.word_fine.ensures ∙ not-true _ c.if-not-word_fine.true-raw))
-
-pub loop-k-preserved : goal.loop-k-preserved
-loop-k-preserved c =
-    c.loop-k.invariant ∙ list_fine-drop _ _ _ c.loop-k-test.true ∙ rw (sym c.word_fine.ensures ∙ not-false _ c.if-not-word_fine.false-raw)
-
 pub returns : goal.returns
-unfolding list_fine
-returns c = sym (c.loop-k.invariant ∙ ap (list_fine _) (drop_of_length-le _ c.loop-k-test.false))
+returns c =
+    all_from_yields_List (λ w. word_fine c.args.m (meaning w)) _ _ _ c.all.ensures.ran (YieldsList-from_slice c.args.list.now cc) (λ x b q k. search (rules, tests))
+    ∙ list_fine_all c.args.m c.args.list.now

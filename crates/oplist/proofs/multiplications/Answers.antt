@@ -1,27 +1,20 @@
--- `oplist::multiplications` meets its contract: what was counted and what is left to count make the whole. Assumes nothing.
-use Prim.Native.Nat.{ℕ}
-use mathlib.Core.Path.{◌≡◌, ap}
-use mathlib.Core.List.{List}
-use native.Mathlib.Omega.{arith}
-use lib.ListN.{get_or, drop, drop_of_length-le}
+-- `oplist::multiplications` meets its contract: the chain counts in each word. Assumes nothing.
+use Rattle.std.proofs.Common.{rules, ◌≡◌, ◌∙◌, refl, map, arith}
+use Rattle.std.specs.List.{sum}
+use Rattle.std.proofs.lemmas.Iterator.{YieldsList-from_slice, YieldsList-from_map}
+use Rattle.std.proofs.lemmas.Iterator.Consumers.{fits_by_from_yields_list}
 use Rattle.oplist.specs.Word.{meaning}
-use Rattle.oplist.specs.Listed.{ops_of}
-use Rattle.oplist.specs.Count.{muls, muls-next, word_muls-one}
+use Rattle.oplist.specs.Count.{word_muls}
+use Rattle.oplist.proofs.Chains.{muls_sum, muls_few}
 use Rattle.oplist.proofs.multiplications.Goals as goal
 
-pub loop-k-init : goal.loop-k-init
-loop-k-init c = (omega arith, omega arith)
-
-pub overflow_add-n : goal.overflow_add-n
-overflow_add-n c = omega (arith, c.word_muls-n.ensures, word_muls-one (meaning (get_or c.args.list.now c.loop-k.k 0)))
-
-pub loop-k-preserved : goal.loop-k-preserved
-loop-k-preserved c =
-    let h = word_muls-one (meaning (get_or c.args.list.now c.loop-k.k 0)) in
-    (omega arith, muls-next _ _ _ _ c.loop-k-test.true c.loop-k.invariant.1 c.word_muls-n.ensures)
+pub sum-requires-clause-fits : goal.sum-requires-clause-fits
+sum-requires-clause-fits c =
+    fits_by_from_yields_list (λ w. word_muls (meaning w)) c.args.list.now _ _
+    (YieldsList-from_map _ (λ w. word_muls (meaning w)) (YieldsList-from_slice c.args.list.now cc) refl (λ x r q k. search rules))
+    (omega (arith, muls_few c.args.list.now, c.iter.ensures.bound))
 
 pub returns : goal.returns
-unfolding muls ops_of
 returns c =
-    let e : muls (ops_of (drop c.loop-k.k c.args.list.now)) ≡ 0 = ap (λ (l : List ℕ). muls (ops_of l)) (drop_of_length-le _ c.loop-k-test.false) in
-    omega arith
+    let h : c.sum.result ≡ sum (map (λ w. word_muls (meaning w)) c.args.list.now) = search rules in
+    h ∙ muls_sum c.args.list.now

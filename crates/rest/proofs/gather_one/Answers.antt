@@ -2,18 +2,8 @@
 use Rattle.rest.specs.Gather.{one-noted, one_left}
 use Rattle.rest.proofs.gather_one.Goals as goal
 
-pub has-requires : goal.has-requires
-has-requires c = (c.requires.inside, c.requires.column)
+pub returns-then-has-clause-recorded : goal.returns-then-has-clause-recorded
+returns-then-has-clause-recorded c = one-noted c.requires c.has.ensures c.if-has.true c.record.ensures.noted
 
-pub record-requires : goal.record-requires
-record-requires c =
-    record {
-      small = (c.requires.small, c.requires.few);
-      fair = c.requires.fair;
-    }
-
-pub returns-then-has : goal.returns-then-has
-returns-then-has c = one-noted c.requires c.has.ensures c.if-has.true c.record.ensures
-
-pub returns-else-has : goal.returns-else-has
-returns-else-has c = one_left c.requires c.has.ensures c.if-has.false
+pub returns-else-has-clause-recorded : goal.returns-else-has-clause-recorded
+returns-else-has-clause-recorded c = one_left c.requires c.has.ensures c.if-has.false

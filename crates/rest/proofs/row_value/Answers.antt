@@ -1,13 +1,8 @@
 -- `rest::row_value` meets its contract: a part of the row, beside its columns. Assumes nothing.
 use Prim.Native.Nat.{◌+◌, ◌-◌, ◌*◌}
 use native.Mathlib.Omega.{arith}
-use Rattle.rest.specs.Vector.{valuing_part, valuing_value}
+use Rattle.rest.specs.Vector.{valuing_value}
 use Rattle.rest.proofs.row_value.Goals as goal
-
-pub weigh_row-requires : goal.weigh_row-requires
-weigh_row-requires c =
-    let a = c.args in
-    valuing_part c.requires (a.x * a.l + a.b + (a.g - a.b) - (a.x * a.l + a.b)) (omega arith)
 
 pub returns : goal.returns
 returns c =

@@ -1,23 +1,16 @@
 -- `rest::vector_of` meets its contract: the values from a place on are in the vector. Assumes nothing.
-use native.Mathlib.Omega.{arith}
 use lib.ListN.{get_or}
-use Rattle.rest.specs.Vector.{last-column, substituting_start, substituting_column, substituting_value, substituting_next, substituting_done}
+use Rattle.rest.specs.Vector.{last-column, substituting_start, substituting_value, substituting_next, substituting_done}
 use Rattle.rest.proofs.vector_of.Goals as goal
-
-pub bounds-vector-last : goal.bounds-vector-last
-bounds-vector-last c = omega (arith, last-column c.requires.singular, c.requires.blank.room)
 
 pub loop-p-init : goal.loop-p-init
 loop-p-init c = substituting_start c.requires.singular c.requires.blank
 
 pub row_value-v-requires : goal.row_value-v-requires
-row_value-v-requires c = substituting_value c.loop-p.invariant c.loop-p-test.true c.later-b.ensures
-
-pub bounds-vector-y : goal.bounds-vector-y
-bounds-vector-y c = omega (arith, substituting_column c.loop-p.invariant c.loop-p-test.true)
+row_value-v-requires c = substituting_value c.loop-p.invariant c.loop-p-test.true c.max-b.ensures
 
 pub loop-p-preserved : goal.loop-p-preserved
-loop-p-preserved c = substituting_next c.loop-p.invariant c.loop-p-test.true c.later-b.ensures c.row_value-v.ensures
+loop-p-preserved c = substituting_next c.loop-p.invariant c.loop-p-test.true c.max-b.ensures c.row_value-v.ensures
 
 pub returns : goal.returns
 returns c =

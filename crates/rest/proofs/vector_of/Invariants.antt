@@ -4,6 +4,3 @@ use Rattle.rest.proofs.vector_of.Given as goal
 
 abbrev pub invariant-loop-p : goal.invariant-loop-p
 invariant-loop-p l = Substituting l.work l.l l.c l.d l.i l.q l.initial.vector l.p l.vector
-
-abbrev pub decreases-loop-p : goal.decreases-loop-p
-decreases-loop-p l = l.p

@@ -4,6 +4,3 @@ use Rattle.rest.proofs.weigh_row.Given as goal
 
 abbrev pub invariant-loop-k : goal.invariant-loop-k
 invariant-loop-k l = Weighed l.row l.cs l.vector l.k l.sum.value
-
-abbrev pub decreases-loop-k : goal.decreases-loop-k
-decreases-loop-k l = l.k

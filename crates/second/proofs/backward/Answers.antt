@@ -1,53 +1,27 @@
 -- `second::backward` meets its contract. The invariant: what is left to be noted from here makes the whole. Assumes nothing.
-use mathlib.Core.Path.{◌≡◌, refl}
+use mathlib.Core.Path.{◌≡◌, ◌∙◌}
 use Prim.Native.Nat.{◌+◌, ◌-◌, ◌≤◌, ◌<◌}
-use lib.ListN.{length}
-use Rattle.second.specs.Store.{store_of}
-use Rattle.second.specs.Backward.{cleared_fair, part-rows, back-next, back_end}
+use Rattle.second.specs.Store.{matrix}
+use Rattle.second.specs.Backward.{cleared_fair, back-next, back_end}
 use native.Mathlib.Omega.{arith}
 use Rattle.second.proofs.backward.Goals as goal
 
-pub loop-e-init : goal.loop-e-init
-loop-e-init c = let p = c.requires in (p.store.from, omega arith, refl, p.fair, record { left = refl })
-
-pub clear_above-r-requires : goal.clear_above-r-requires
-clear_above-r-requires c =
+pub loop-q-preserved : goal.loop-q-preserved
+loop-q-preserved c =
     let a = c.args in
-    let p = c.requires in
-    let o = c.loop-e in
-    let t : a.i < o.e = c.loop-e-test.true in
-    let n : length a.d.now ≡ a.m = c.requires.order.size in
-    let u : o.e ≤ a.l = c.loop-e.invariant.1 in
-    let v : a.l ≤ a.m = c.requires.wide in
+    let o = c.loop-q in
+    let k = c.clear_above in
+    let t : a.area.i < o.q = c.loop-q-test.true in
+    let u : o.q ≤ a.area.l = c.loop-q.auto.q in
+    let z : o.q - 1 + 1 ≡ o.q = omega arith in
     record {
-      above = record {
-        store = p.store;
-        few = p.few;
-        from = omega arith;
-        upto = omega arith;
-        by = p.order.rows.below (o.e - 1) (omega arith);
-        rows = part-rows a.m a.i (o.e - 1 - a.i) a.d.now p.order.rows (omega arith);
-      };
-      fair = o.invariant.3;
+      same_room = k.ensures.same_room ∙ o.invariant.same_room;
+      fair = cleared_fair k.ensures.cleared o.invariant.fair;
+      backing = back-next (matrix a.area a.work.now) a.d.now a.area.l a.area.i (omega arith) (omega arith) z o.invariant.backing k.ensures.cleared;
     }
 
-pub loop-e-preserved : goal.loop-e-preserved
-loop-e-preserved c =
+pub returns-clause-cleared : goal.returns-clause-cleared
+returns-clause-cleared c =
     let a = c.args in
-    let o = c.loop-e in
-    let k = c.clear_above-r in
-    let t : a.i < o.e = c.loop-e-test.true in
-    let u : o.e ≤ a.l = c.loop-e.invariant.1 in
-    let z : o.e - 1 + 1 ≡ o.e = omega arith in (
-      omega arith,
-      omega arith,
-      omega (arith, k.auto, o.invariant.2),
-      cleared_fair k.ensures o.invariant.3,
-      back-next (store_of a.m a.l a.i a.work.now) a.d.now a.l a.i (omega arith) (omega arith) z o.invariant.4 k.ensures,
-    )
-
-pub returns : goal.returns
-returns c =
-    let a = c.args in
-    let o = c.loop-e in
-    back_end (store_of a.m a.l a.i a.work.now) a.d.now a.l a.i (omega (arith, c.loop-e-test.false)) o.invariant.4
+    let o = c.loop-q in
+    back_end (matrix a.area a.work.now) a.d.now a.area.l a.area.i (omega (arith, c.loop-q-test.false)) o.invariant.backing

@@ -1,7 +1,7 @@
 -- `second::gather` meets its contract. The loop makes the row from the front. Assumes nothing.
 use mathlib.Core.Path.{sym, ◌∙◌}
-use Prim.Native.Nat.{ℕ, ◌-◌, ◌<◌}
-use lib.ListN.{length, get_or, length-map}
+use Prim.Native.Nat.{ℕ}
+use lib.ListN.{get_or, length-map}
 use Rattle.phases.specs.Matrix.{get_d_map}
 use Rattle.loops.specs.Front.{begin, turn, end}
 use native.Mathlib.Omega.{arith}
@@ -9,11 +9,6 @@ use Rattle.second.proofs.gather.Goals as goal
 
 pub loop-k-init : goal.loop-k-init
 loop-k-init c = begin (length-map c.args.cols.now (λ (q : ℕ). get_or c.args.row.now q 0) ∙ sym c.requires.dest_len)
-
-pub bounds-row-q : goal.bounds-row-q
-bounds-row-q c =
-    let h : c.loop-k.k < length c.args.cols.now = omega arith in
-    c.requires.by_index c.loop-k.k h
 
 pub loop-k-preserved : goal.loop-k-preserved
 loop-k-preserved c =

@@ -1,12 +1,9 @@
 -- `second::gather` meets its contract. The loop makes the row from the front. Assumes nothing.
 use mathlib.Core.List.{map}
-use Prim.Native.Nat.{ℕ, ◌-◌}
-use lib.ListN.{length, get_or}
+use Prim.Native.Nat.{ℕ}
+use lib.ListN.{get_or}
 use Rattle.loops.specs.Front.{Front}
 use Rattle.second.proofs.gather.Given as goal
 
 abbrev pub invariant-loop-k : goal.invariant-loop-k
 invariant-loop-k l = Front (map (λ (q : ℕ). get_or l.row q 0) l.cols) l.initial.dest l.dest l.k
-
-abbrev pub decreases-loop-k : goal.decreases-loop-k
-decreases-loop-k l = length l.initial.dest - l.k

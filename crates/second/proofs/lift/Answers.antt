@@ -6,4 +6,5 @@ use Rattle.second.proofs.lift.Goals as goal
 pub returns : goal.returns
 returns c =
     let a = c.args in
-    c.copy.ensures ∙ row-part a.m a.l a.i a.work.now c.requires.sized a.x c.requires.x_lt_m.0 c.cell-a.ensures c.cell-b.ensures
+    c.copy_from_slice.ensures.after
+    ∙ row-part a.area.m a.area.l a.area.i a.work.now c.requires.sized a.x c.requires.x_lt_m.0 c.span-a.ensures.start c.span-a.ensures.stop

@@ -2,5 +2,5 @@
 use Rattle.second.specs.Clear.{performed_one}
 use Rattle.second.proofs.perform.Goals as goal
 
-pub returns : goal.returns
-returns c = performed_one c.apply.ensures c.record.ensures.is
+pub returns-clause-performed : goal.returns-clause-performed
+returns-clause-performed c = performed_one c.apply.ensures c.record.ensures.noted.is

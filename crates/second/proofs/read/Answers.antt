@@ -6,4 +6,4 @@ use Rattle.second.proofs.read.Goals as goal
 pub returns : goal.returns
 returns c =
     let a = c.args in
-    sym (at-store_of a.m a.l a.i a.work.now c.requires.sized a.y c.requires.y_lt_m.0 a.q c.cell-k.result c.requires.y_lt_m.1 c.requires.y_lt_m.2 c.cell-k.ensures.is)
+    sym (at-store_of a.area.m a.area.l a.area.i a.work.now c.requires.sized a.y c.requires.y_lt_m.0 a.q c.cell-k.result c.requires.y_lt_m.1 c.requires.y_lt_m.2 c.cell-k.ensures.is)

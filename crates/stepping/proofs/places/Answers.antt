@@ -11,13 +11,13 @@ pub bring_row-requires : goal.bring_row-requires
 unfolding part
 bring_row-requires c = c.requires.4
 
-pub arrange-requires : goal.arrange-requires
+pub arrange-requires-clause-l_in_bounds : goal.arrange-requires-clause-l_in_bounds
 unfolding part
-arrange-requires c =
-    record {
-      l_in_bounds = (c.requires.5, c.requires.6, c.requires.7);
-      under = c.requires.8;
-    }
+arrange-requires-clause-l_in_bounds c = (c.requires.5, c.requires.6, c.requires.7)
+
+pub arrange-requires-clause-under : goal.arrange-requires-clause-under
+unfolding part
+arrange-requires-clause-under c = c.requires.8
 
 pub returns : goal.returns
 unfolding part put

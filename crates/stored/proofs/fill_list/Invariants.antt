@@ -1,5 +1,4 @@
 -- `stored::fill_list` meets its contract: the room is filled from the front. Assumes nothing.
-use Prim.Native.Nat.{◌-◌}
 use lib.ListN.{length}
 use Rattle.loops.specs.Front.{Front}
 use Rattle.stored.specs.Bytes.{padded}
@@ -8,6 +7,3 @@ use Rattle.stored.proofs.fill_list.Given as goal
 
 abbrev pub invariant-loop-i : goal.invariant-loop-i
 invariant-loop-i l = Front (padded (words_at l.form 13 l.n) (length l.initial.list)) l.initial.list l.list l.i
-
-abbrev pub decreases-loop-i : goal.decreases-loop-i
-decreases-loop-i l = length l.initial.list - l.i

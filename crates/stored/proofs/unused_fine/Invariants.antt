@@ -6,6 +6,3 @@ use Rattle.stored.proofs.unused_fine.Given as goal
 
 abbrev pub invariant-loop-k : goal.invariant-loop-k
 invariant-loop-k l = (l.k ≤ l.n) × (unused_fine l.form 13 l.n ≡ unused_fine l.form (13 + 4 * l.k) (l.n - l.k))
-
-abbrev pub decreases-loop-k : goal.decreases-loop-k
-decreases-loop-k l = l.n - l.k

@@ -9,8 +9,8 @@ use Rattle.stored.proofs.word_or_zero.Goals as goal
 pub returns-then-i-n : goal.returns-then-i-n
 returns-then-i-n c = c.word_at.ensures ∙ sym (get_or-words_at _ 13 _ _ c.if-i-n.true)
 
-pub returns : goal.returns
-returns c =
+pub returns-else-i-n : goal.returns-else-i-n
+returns-else-i-n c =
     let a = c.args in
     let h = length-words_at a.form.now 13 a.n in
     sym (get_or_out (words_at a.form.now 13 a.n) a.i (omega arith))

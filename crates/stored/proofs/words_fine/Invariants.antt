@@ -7,6 +7,3 @@ use Rattle.stored.proofs.words_fine.Given as goal
 
 abbrev pub invariant-loop-k : goal.invariant-loop-k
 invariant-loop-k l = (l.k ≤ l.n) × (list_fine l.m (words_at l.form 13 l.n) ≡ list_fine l.m (words_at l.form (13 + 4 * l.k) (l.n - l.k)))
-
-abbrev pub decreases-loop-k : goal.decreases-loop-k
-decreases-loop-k l = l.n - l.k

@@ -1,52 +1,40 @@
 -- `stored::write` meets its contract: a list that passed its checks is laid out as its form, and a refusal leaves the room. Assumes nothing.
 use Prim.Native.Nat.{ℕ}
-use mathlib.Core.Path.{sym, ap, ◌∙◌}
-use mathlib.Core.List.{List}
-use native.Mathlib.Omega.{arith}
+use mathlib.Core.Path.{refl, sym, ap, ◌∙◌}
+use mathlib.Core.List.{List, []}
+use Rattle.std.specs.Prelude.{is_some, unwrap_or}
+use Rattle.std.specs.Option.{option_copied}
 use lib.ListN.{length}
+use Rattle.std.proofs.lemmas.Result.{err_from_is_err_and}
 use Rattle.stored.specs.Bytes.{padded}
 use Rattle.stored.specs.Answers.{write_as, write_met}
 use Rattle.stored.specs.Accepted.{judged_accepts, done-size, done_write}
 use Rattle.stored.specs.Laid.{laid_done, length-done}
 use Rattle.stored.proofs.write.Goals as goal
 
-pub overflow_sub-size : goal.overflow_sub-size
-overflow_sub-size c =
+pub returns-in_err-size : goal.returns-in_err-size
+returns-in_err-size c =
     let a = c.args in
-    let d = sym c.judge_list-answer.ensures ∙ c.in-Done.is in
-    let A = judged_accepts a.m a.l a.list.now a.ordered a.order.now (length a.out.now) _ d in
-    let e = done-size a.m a.l a.list.now a.ordered a.order.now (length a.out.now) _ d in
-    omega arith
+    let o = option_copied a.order in
+    let p = err_from_is_err_and c.from_residual.result c.from_residual.ensures.1 in
+    rw (p.1, p.2) (write_met (write_as a.m a.l a.list.now (is_some o) (unwrap_or o []) a.out.now c.in_err-size.ensures.answer refl))
 
 pub fill_form-requires : goal.fill_form-requires
 fill_form-requires c =
     let a = c.args in
-    let d = sym c.judge_list-answer.ensures ∙ c.in-Done.is in
-    let A = judged_accepts a.m a.l a.list.now a.ordered a.order.now (length a.out.now) _ d in
-    let e = done-size a.m a.l a.list.now a.ordered a.order.now (length a.out.now) _ d in
-    length-done a.m a.l a.list.now a.ordered a.order.now (length a.out.now) A _ e _ c.head-first.ensures
+    let o = option_copied a.order in
+    let d = sym c.in_ok-size.ensures.answer in
+    let A = judged_accepts a.m a.l a.list.now (is_some o) (unwrap_or o []) (length a.out.now) _ d in
+    let e = done-size a.m a.l a.list.now (is_some o) (unwrap_or o []) (length a.out.now) _ d in
+    length-done a.m a.l a.list.now o (length a.out.now) A _ e _ c.head-first.ensures
 
-pub returns-in-Done : goal.returns-in-Done
-returns-in-Done c =
+pub returns : goal.returns
+returns c =
     let a = c.args in
-    let d = sym c.judge_list-answer.ensures ∙ c.in-Done.is in
-    let A = judged_accepts a.m a.l a.list.now a.ordered a.order.now (length a.out.now) _ d in
-    let e = done-size a.m a.l a.list.now a.ordered a.order.now (length a.out.now) _ d in
+    let o = option_copied a.order in
+    let d = sym c.in_ok-size.ensures.answer in
+    let A = judged_accepts a.m a.l a.list.now (is_some o) (unwrap_or o []) (length a.out.now) _ d in
+    let e = done-size a.m a.l a.list.now (is_some o) (unwrap_or o []) (length a.out.now) _ d in
     write_met
-    (done_write a.m a.l a.list.now a.ordered a.order.now (length a.out.now) a.out.now _ _ d
-    (c.fill_form.ensures ∙ ap (λ (x : List ℕ). padded x (length a.out.now)) (laid_done a.m a.l a.list.now a.ordered a.order.now (length a.out.now) A _ e _ c.head-first.ensures)))
-
-pub returns-in-BadShape : goal.returns-in-BadShape
-returns-in-BadShape c =
-    let a = c.args in
-    write_met (write_as a.m a.l a.list.now a.ordered a.order.now a.out.now c.judge_list-answer.ensures c.in-BadShape.is)
-
-pub returns-in-NoRoom : goal.returns-in-NoRoom
-returns-in-NoRoom c =
-    let a = c.args in
-    write_met (write_as a.m a.l a.list.now a.ordered a.order.now a.out.now c.judge_list-answer.ensures c.in-NoRoom.is)
-
-pub returns-in-BadList : goal.returns-in-BadList
-returns-in-BadList c =
-    let a = c.args in
-    write_met (write_as a.m a.l a.list.now a.ordered a.order.now a.out.now c.judge_list-answer.ensures c.in-BadList.is)
+    (done_write a.m a.l a.list.now (is_some o) (unwrap_or o []) (length a.out.now) a.out.now _ _ d
+    (c.fill_form.ensures ∙ ap (λ (x : List ℕ). padded x (length a.out.now)) (laid_done a.m a.l a.list.now o (length a.out.now) A _ e _ c.head-first.ensures)))

@@ -1,24 +1,23 @@
--- `slab::replay` meets its contract. Assumes nothing.
-use mathlib.Core.Path.{sym, ◌∙◌}
+-- `replay` meets its contract. Assumes nothing.
+use Rattle.std.proofs.Common.{sym}
+use Rattle.std.proofs.lemmas.Result.{err_from_is_err_and}
 use Rattle.symbol_slab.specs.Replay.{replayed, replay_met}
 use Rattle.symbol_slab.specs.Passed.{passed, all_placed}
 use Rattle.symbol_slab.proofs.replay.Goals as goal
 
+pub returns-in_err-check_call : goal.returns-in_err-check_call
+unfolding replayed
+returns-in_err-check_call c =
+    let p = err_from_is_err_and c.from_residual.result c.from_residual.ensures.1 in
+    rw (p.1, p.2) (replay_met (rw (sym c.in_err-check_call.ensures)))
+
 pub apply_all-requires : goal.apply_all-requires
-apply_all-requires c = all_placed (passed _ _ _ _ _ _ _ (sym c.check_call.ensures ∙ c.in-Pass.is))
+apply_all-requires c = all_placed (passed _ _ _ _ _ _ _ (sym c.in_ok-check_call.ensures))
 
-pub returns-in-ShapeFails : goal.returns-in-ShapeFails
+pub returns-in-Some : goal.returns-in-Some
 unfolding replayed
-returns-in-ShapeFails c = replay_met (rw (sym c.check_call.ensures ∙ c.in-ShapeFails.is))
+returns-in-Some c = replay_met (rw (sym c.in_ok-check_call.ensures, c.in-Some.is, c.apply_all.ensures))
 
-pub returns-in-ListFails : goal.returns-in-ListFails
+pub returns-in-None : goal.returns-in-None
 unfolding replayed
-returns-in-ListFails c = replay_met (rw (sym c.check_call.ensures ∙ c.in-ListFails.is))
-
-pub returns-then-ordered : goal.returns-then-ordered
-unfolding replayed
-returns-then-ordered c = replay_met (rw (sym c.check_call.ensures ∙ c.in-Pass.is, c.if-ordered.true, c.apply_all.ensures))
-
-pub returns-else-ordered : goal.returns-else-ordered
-unfolding replayed
-returns-else-ordered c = replay_met (rw (sym c.check_call.ensures ∙ c.in-Pass.is, c.if-ordered.false, c.apply_all.ensures))
+returns-in-None c = replay_met (rw (sym c.in_ok-check_call.ensures, c.in-None.is, c.apply_all.ensures))

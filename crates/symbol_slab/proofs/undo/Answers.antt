@@ -1,25 +1,24 @@
--- `slab::undo` meets its contract. Assumes nothing.
-use mathlib.Core.Path.{sym, ◌∙◌}
+-- `undo` meets its contract. Assumes nothing.
+use Rattle.std.proofs.Common.{sym, ◌∙◌}
+use Rattle.std.proofs.lemmas.Result.{err_from_is_err_and}
+use borrow.Author.Tests.{not-true, not-false}
 use Rattle.symbol_slab.specs.Replay.{undone, undo_met}
 use Rattle.symbol_slab.specs.Passed.{passed, all_placed}
-use borrow.Author.Tests.{not-true, not-false}
 use Rattle.symbol_slab.proofs.undo.Goals as goal
+
+pub returns-in_err-check_call : goal.returns-in_err-check_call
+unfolding undone
+returns-in_err-check_call c =
+    let p = err_from_is_err_and c.from_residual.result c.from_residual.ensures.1 in
+    rw (p.1, p.2) (undo_met (rw (sym c.in_err-check_call.ensures)))
 
 pub returns-then-not-can_undo : goal.returns-then-not-can_undo
 unfolding undone
-returns-then-not-can_undo c = undo_met (rw (sym c.check_call.ensures ∙ c.in-Pass.is, sym c.can_undo.ensures ∙ not-true _ c.if-not-can_undo.true-raw))
+returns-then-not-can_undo c = undo_met (rw (sym c.in_ok-check_call.ensures, sym c.can_undo.ensures ∙ not-true _ c.if-not-can_undo.true-raw))
 
 pub undo_all-requires : goal.undo_all-requires
-undo_all-requires c = all_placed (passed _ _ _ _ _ _ _ (sym c.check_call.ensures ∙ c.in-Pass.is))
+undo_all-requires c = all_placed (passed _ _ _ _ _ _ _ (sym c.in_ok-check_call.ensures))
 
-pub returns-in-ShapeFails : goal.returns-in-ShapeFails
+pub returns : goal.returns
 unfolding undone
-returns-in-ShapeFails c = undo_met (rw (sym c.check_call.ensures ∙ c.in-ShapeFails.is))
-
-pub returns-in-ListFails : goal.returns-in-ListFails
-unfolding undone
-returns-in-ListFails c = undo_met (rw (sym c.check_call.ensures ∙ c.in-ListFails.is))
-
-pub returns-else-not-can_undo : goal.returns-else-not-can_undo
-unfolding undone
-returns-else-not-can_undo c = undo_met (rw (sym c.check_call.ensures ∙ c.in-Pass.is, sym c.can_undo.ensures ∙ not-false _ c.if-not-can_undo.false-raw, c.undo_all.ensures))
+returns c = undo_met (rw (sym c.in_ok-check_call.ensures, sym c.can_undo.ensures ∙ not-false _ c.if-not-can_undo.false-raw, c.undo_all.ensures))

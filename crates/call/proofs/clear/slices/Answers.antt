@@ -2,8 +2,8 @@
 use Rattle.call.specs.Call.{wiped_are}
 use Rattle.call.proofs.clear.slices.Goals as goal
 
-pub returns : goal.returns
-returns c =
+pub returns-clause-wiped : goal.returns-clause-wiped
+returns-clause-wiped c =
     wiped_are _ _ _ _ _ _ _ _ _
     c.bytes.ensures
     c.bytes-2.ensures

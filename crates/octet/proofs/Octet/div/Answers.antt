@@ -1,6 +1,8 @@
 -- `octet::Octet::div` meets its contract: exponents subtract. Assumes nothing.
-use mathlib.Core.Path.{sym, ◌∙◌}
+use mathlib.Core.Path.{sym, ap₂, ◌∙◌}
+use Prim.Native.Nat.{◌+◌, ◌-◌}
 use native.Mathlib.Omega.{arith}
+use Rattle.octet.specs.Octet.{power}
 use Rattle.octet.specs.Answers.{divided_zero, divided_value}
 use Rattle.octet.specs.Powers.{quotient-zero}
 use Rattle.octet.proofs.Powers.{quotient-powers}
@@ -17,4 +19,5 @@ returns c = let x = c.log in
     let y = c.log-2 in
     divided_value (omega arith)
     (c.exp.ensures
+    ∙ ap₂ (λ i j. power 2 (255 + i - j)) c.from.ensures c.from-2.ensures
     ∙ quotient-powers _ _ x.result y.result (omega arith) (omega arith) (omega arith) x.ensures.1 y.ensures.1 (omega arith))

@@ -3,4 +3,4 @@ use Rattle.programs.specs.Calls.{solves_is}
 use Rattle.programs.proofs.calling.solve_case.Goals as goal
 
 pub returns : goal.returns
-returns c = solves_is c.at_most-b.ensures.is c.at_most-o.ensures.is c.at_most-n.ensures.is c.call.ensures
+returns c = solves_is c.min-b.ensures c.min-o.ensures c.min-n.ensures c.call.ensures

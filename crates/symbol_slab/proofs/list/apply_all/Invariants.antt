@@ -6,7 +6,7 @@ use Rattle.symbol_slab.specs.Columns.{Cols}
 use Rattle.symbol_slab.proofs.list.apply_all.Given as goal
 
 abbrev pub invariant-loop-at : goal.invariant-loop-at
-invariant-loop-at l = (l.at ≤ l.t) × Cols l.t 0 l.at (ops_of l.list) l.initial.slab l.slab × Blank l.room
+invariant-loop-at l = (l.at ≤ l.t) × Cols l.t 0 l.at (ops_of l.list) l.initial.slab l.slab × Blank l.room.bytes
 
 abbrev pub decreases-loop-at : goal.decreases-loop-at
 decreases-loop-at l = l.t - l.at

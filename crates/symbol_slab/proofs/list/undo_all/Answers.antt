@@ -1,5 +1,4 @@
 -- `list::undo_all` meets its contract. Assumes nothing.
-use Prim.Native.Nat.{◌-◌}
 use lib.ListN.{length}
 use Rattle.octets.specs.Multiples.{blank-zeros}
 use Rattle.oplist.specs.Listed.{ops_of}
@@ -12,17 +11,13 @@ pub loop-at-init : goal.loop-at-init
 loop-at-init c = (omega arith, cols-start, blank-zeros)
 
 pub undo_columns-requires : goal.undo_columns-requires
-undo_columns-requires c =
-    let now = c.loop-at in
-    let n = c.least-n.ensures in
-    (rw now.invariant.1.long c.requires, n.0, n.2, omega arith, now.invariant.2)
+undo_columns-requires c = (rw (c.new-part.ensures.rows, c.loop-at.invariant.1.long) c.requires, c.loop-at.invariant.2)
 
 pub loop-at-preserved : goal.loop-at-preserved
 loop-at-preserved c =
     let now = c.loop-at in
-    let n = c.least-n.ensures in
-    let call = c.undo_columns in
-    (omega arith, cols_join now.invariant.1 call.ensures.0 (omega arith) (omega arith), call.ensures.1)
+    let call = rw (c.new-part.ensures.rows, c.new-part.ensures.place) at c.undo_columns.ensures in
+    (omega arith, cols_join now.invariant.1 call.0 (omega arith) (omega arith), call.1)
 
 pub returns : goal.returns
 returns c =

@@ -1,7 +1,7 @@
 -- `row::add_part` meets its contract. Assumes nothing.
 use mathlib.Core.Path.{ap, ap₂, ◌∙◌}
 use mathlib.Core.Logic.{⊎_elim}
-use Prim.Native.Nat.{ℕ, ◌+◌, ◌-◌}
+use Prim.Native.Nat.{ℕ, ◌+◌}
 use lib.ListN.{get_or}
 use Rattle.octet.specs.Octet.{add}
 use Rattle.octets.specs.Spans.{span_start, span_next, span_upto}

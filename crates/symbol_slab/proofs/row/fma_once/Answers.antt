@@ -6,5 +6,5 @@ pub returns : goal.returns
 returns c =
     let a = c.args in
     let p = c.requires in
-    let f = c.copy.ensures in
+    let f = c.copy_from_slice.ensures.after in
     (copy_span a.slab.now p.0 p.1 p.2 f a.k c.fma.ensures.is, copy_blank a.slab.now p.0 p.1 p.2 f)

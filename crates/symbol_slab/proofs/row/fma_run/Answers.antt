@@ -9,4 +9,4 @@ returns c =
     let p = c.requires in
     let h = c.hold.ensures in
     let s = fma_span a.slab.now _ a.dest a.n p.0.dest_in a.src a.k (omega arith) h.0 c.gather.ensures in
-    (s, ready_after p.0 s h.0 h.1)
+    (s, rw h.2 (ready_after p.0 s h.0 h.1))

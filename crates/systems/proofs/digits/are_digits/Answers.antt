@@ -1,16 +1,11 @@
--- `digits::are_digits` meets its contract: what is left to look at decides the same. Assumes nothing.
-use mathlib.Core.Path.{refl, sym, ◌∙◌}
-use Rattle.systems.specs.Digits.{digits_bad, digits_good, digits_over}
+-- `digits::are_digits` meets its contract: the library's test is the definition. Assumes nothing.
+use Rattle.std.proofs.Common.{ℕ, leb, sym, ◌∙◌, rules, tests}
+use Rattle.std.proofs.lemmas.Iterator.{YieldsList-from_slice}
+use Rattle.std.proofs.lemmas.Iterator.Search.{all_from_yields_List}
+use Rattle.systems.specs.Digits.{nibble_of, digits_is}
 use Rattle.systems.proofs.digits.are_digits.Goals as goal
 
-pub loop-i-init : goal.loop-i-init
-loop-i-init c = refl
-
-pub returns-then-nibble-gt15 : goal.returns-then-nibble-gt15
-returns-then-nibble-gt15 c = sym (c.loop-i.invariant ∙ digits_bad _ _ c.loop-i-test.true (rw c.nibble.ensures.0 at c.if-nibble-gt15.true))
-
-pub loop-i-preserved : goal.loop-i-preserved
-loop-i-preserved c = c.loop-i.invariant ∙ digits_good _ _ c.loop-i-test.true (rw c.nibble.ensures.0 at c.if-nibble-gt15.false)
-
 pub returns : goal.returns
-returns c = sym (c.loop-i.invariant ∙ digits_over _ _ c.loop-i-test.false)
+returns c =
+    all_from_yields_List (λ (c : ℕ). leb (nibble_of c) 15) _ _ c.all.result c.all.ensures.ran (YieldsList-from_slice c.args.digits.now cc) (λ x b q k. search (rules, tests))
+    ∙ sym (digits_is c.args.digits.now)

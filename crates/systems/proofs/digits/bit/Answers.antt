@@ -1,22 +1,36 @@
 -- `digits::bit` meets its contract: four bits a digit. Assumes nothing.
-use native.Mathlib.Omega.{arith}
-use Prim.Native.Nat.{ℕ, ◌/◌, ◌%◌}
-use mathlib.Core.Path.{sym, ap, ◌∙◌}
-use Rattle.systems.specs.Digits.{bits_in, bit_at}
+use Rattle.std.proofs.Common.{sym, ◌∙◌, arith}
+use Rattle.systems.specs.Digits.{bits_in, digit_or, bit_at}
 use Rattle.systems.proofs.digits.bit.Goals as goal
 
-pub returns-then-k-eq0 : goal.returns-then-k-eq0
+pub returns-in-0 : goal.returns-in-0
 unfolding bits_in
-returns-then-k-eq0 c = let a = c.args in ap (λ (d : ℕ). d / 8 % 2) c.nibble-d.ensures.0 ∙ sym (bit_at a.digits.now a.i 0 c.requires c.if-k-eq0.true)
+returns-in-0 c =
+    let a = c.args in
+    let e = digit_or _ _ _ c.nibble.ensures.value c.unwrap_or-d.ensures in
+    let h = bit_at a.digits.now a.i 0 c.requires c.in-0.is in
+    omega arith ∙ sym h
 
-pub returns-then-k-eq1 : goal.returns-then-k-eq1
+pub returns-in-1 : goal.returns-in-1
 unfolding bits_in
-returns-then-k-eq1 c = let a = c.args in ap (λ (d : ℕ). d / 4 % 2) c.nibble-d.ensures.0 ∙ sym (bit_at a.digits.now a.i 1 c.requires c.if-k-eq1.true)
+returns-in-1 c =
+    let a = c.args in
+    let e = digit_or _ _ _ c.nibble.ensures.value c.unwrap_or-d.ensures in
+    let h = bit_at a.digits.now a.i 1 c.requires c.in-1.is in
+    omega arith ∙ sym h
 
-pub returns-then-k-eq2 : goal.returns-then-k-eq2
+pub returns-in-2 : goal.returns-in-2
 unfolding bits_in
-returns-then-k-eq2 c = let a = c.args in ap (λ (d : ℕ). d / 2 % 2) c.nibble-d.ensures.0 ∙ sym (bit_at a.digits.now a.i 2 c.requires c.if-k-eq2.true)
+returns-in-2 c =
+    let a = c.args in
+    let e = digit_or _ _ _ c.nibble.ensures.value c.unwrap_or-d.ensures in
+    let h = bit_at a.digits.now a.i 2 c.requires c.in-2.is in
+    omega arith ∙ sym h
 
-pub returns : goal.returns
+pub returns-in_default : goal.returns-in_default
 unfolding bits_in
-returns c = let a = c.args in ap (λ (d : ℕ). d % 2) c.nibble-d.ensures.0 ∙ sym (bit_at a.digits.now a.i 3 c.requires (omega arith))
+returns-in_default c =
+    let a = c.args in
+    let e = digit_or _ _ _ c.nibble.ensures.value c.unwrap_or-d.ensures in
+    let h = bit_at a.digits.now a.i 3 c.requires (omega arith) in
+    omega arith ∙ sym h

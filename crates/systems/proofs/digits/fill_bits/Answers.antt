@@ -1,8 +1,5 @@
 -- `digits::fill_bits` meets its contract: the room is filled from the front. Assumes nothing.
-use native.Mathlib.Omega.{arith}
-use mathlib.Core.Path.{sym, ◌∙◌}
-use lib.ListN.{length}
-use lib.Seq.{length-take-le, get_or-take}
+use Rattle.std.proofs.Common.{sym, ◌∙◌, length, arith, length-take-le, get_or-take}
 use Rattle.loops.specs.Front.{begin, turn, end}
 use Rattle.systems.specs.Digits.{bits_in, length_bits}
 use Rattle.systems.proofs.digits.fill_bits.Goals as goal
@@ -14,7 +11,7 @@ pub loop-i-preserved : goal.loop-i-preserved
 loop-i-preserved c =
     let a = c.args in
     let l = c.loop-i.invariant in
-    turn l c.loop-i-test.true (c.bit.ensures ∙ sym (get_or-take (length a.out.now) (bits_in a.digits.now) c.loop-i.i 0 (omega (arith, l.long))))
+    turn l (omega (arith, l.long)) (c.bit.ensures ∙ sym (get_or-take (length a.out.now) (bits_in a.digits.now) c.loop-i.i 0 (omega (arith, l.long))))
 
 pub returns : goal.returns
-returns c = end c.loop-i.invariant c.loop-i-test.false
+returns c = let l = c.loop-i.invariant in end l (omega (arith, l.long))

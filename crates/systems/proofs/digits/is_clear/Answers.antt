@@ -1,11 +1,7 @@
 -- `digits::is_clear` meets its contract: what is left to look at decides the same. Assumes nothing.
-use native.Mathlib.Omega.{arith}
-use mathlib.Core.Path.{refl, sym, ◌∙◌}
+use Rattle.std.proofs.Common.{sym, ◌∙◌, arith}
 use Rattle.systems.specs.Digits.{bits_in, length_bits, clear-not, clear_next, clear-over}
 use Rattle.systems.proofs.digits.is_clear.Goals as goal
-
-pub loop-i-init : goal.loop-i-init
-loop-i-init c = refl
 
 pub returns-then-bit-ne0 : goal.returns-then-bit-ne0
 returns-then-bit-ne0 c =

@@ -3,10 +3,10 @@ use mathlib.Core.Path.{sym, ap, ◌∙◌}
 use Rattle.systems.specs.Lined.{columns_in, columns_of}
 use Rattle.systems.proofs.rows.columns.Goals as goal
 
-pub returns-in-Found : goal.returns-in-Found
+pub returns-in-Ok : goal.returns-in-Ok
 unfolding columns_of
-returns-in-Found c = ap columns_in (sym c.in-Found.is ∙ c.params.ensures.is)
+returns-in-Ok c = ap columns_in (sym c.in-Ok.is ∙ c.params.ensures.is)
 
-pub returns-in-BadCount : goal.returns-in-BadCount
+pub returns-in-Err : goal.returns-in-Err
 unfolding columns_of
-returns-in-BadCount c = ap columns_in (sym c.in-BadCount.is ∙ c.params.ensures.is)
+returns-in-Err c = ap columns_in (sym c.in-Err.is ∙ c.params.ensures.is)

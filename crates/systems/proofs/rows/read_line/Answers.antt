@@ -1,63 +1,53 @@
 -- `rows::read_line` meets its contract: each kind of line is a case of the definition. Assumes nothing.
-use borrow.Author.Rules.{rules}
-use native.Mathlib.Omega.{arith}
-use Prim.Native.Nat.{◌≤◌}
-use mathlib.Core.Path.{sym, ◌∙◌}
-use lib.ListN.{length}
-use Rattle.systems.specs.Text.{starts_long}
-use Rattle.systems.specs.Lined.{bits_word, octets_word, slab_word, buffers, line_bits, line_octets, line_slab, line-size, line_go, line_other}
+use Rattle.std.proofs.Common.{ap, sym, ◌∙◌, rules}
+use Rattle.systems.specs.Text.{strip_is}
+use Rattle.systems.specs.Lined.{bits_word, octets_word, slab_word, buffers, go_on, line_bits, line_octets, line_slab, line_go, line_other}
 use Rattle.systems.proofs.rows.read_line.Goals as goal
 
-pub slice_bounds-read_bits-count : goal.slice_bounds-read_bits-count
-slice_bounds-read_bits-count c = let h : 2 ≤ length c.args.line.now = starts_long bits_word _ (sym c.starts.ensures ∙ c.if-starts.true) in omega arith
-
-pub slice_bounds-read_bits-start : goal.slice_bounds-read_bits-start
-slice_bounds-read_bits-start c = let h : 2 ≤ length c.args.line.now = starts_long bits_word _ (sym c.starts.ensures ∙ c.if-starts.true) in search rules
-
-pub returns-then-starts : goal.returns-then-starts
-returns-then-starts c =
+pub returns-in_err-read_bits : goal.returns-in_err-read_bits
+returns-in_err-read_bits c =
     let a = c.args in
     let b = buffers a.bits.now a.octets.now a.slab.now in
-    line_bits a.line.now a.s b (sym c.starts.ensures ∙ c.if-starts.true) c.read_bits.ensures
+    line_bits a.line.now a.s b (sym (strip_is bits_word _) ∙ c.in-Some.ensures.cases.0) c.in-Some.ensures.cases.1 c.read_bits.ensures (c.from_residual.ensures ∙ sym (ap go_on c.in_err-read_bits.was))
 
-pub slice_bounds-read_octets-count : goal.slice_bounds-read_octets-count
-slice_bounds-read_octets-count c = let h : 2 ≤ length c.args.line.now = starts_long octets_word _ (sym c.starts-2.ensures ∙ c.if-starts-2.true) in omega arith
-
-pub slice_bounds-read_octets-start : goal.slice_bounds-read_octets-start
-slice_bounds-read_octets-start c = let h : 2 ≤ length c.args.line.now = starts_long octets_word _ (sym c.starts-2.ensures ∙ c.if-starts-2.true) in search rules
-
-pub returns-then-starts-2 : goal.returns-then-starts-2
-returns-then-starts-2 c =
+pub returns-in-Some : goal.returns-in-Some
+returns-in-Some c =
     let a = c.args in
     let b = buffers a.bits.now a.octets.now a.slab.now in
-    line_octets a.line.now a.s b (sym c.starts.ensures ∙ c.if-starts.false) (sym c.starts-2.ensures ∙ c.if-starts-2.true) c.read_octets.ensures
+    line_bits a.line.now a.s b (sym (strip_is bits_word _) ∙ c.in-Some.ensures.cases.0) c.in-Some.ensures.cases.1 c.read_bits.ensures (sym (ap go_on c.in_ok-read_bits.was))
 
-pub slice_bounds-read_slab-count : goal.slice_bounds-read_slab-count
-slice_bounds-read_slab-count c = let h : 2 ≤ length c.args.line.now = starts_long slab_word _ (sym c.starts-3.ensures ∙ c.if-starts-3.true) in omega arith
-
-pub slice_bounds-read_slab-start : goal.slice_bounds-read_slab-start
-slice_bounds-read_slab-start c = let h : 2 ≤ length c.args.line.now = starts_long slab_word _ (sym c.starts-3.ensures ∙ c.if-starts-3.true) in search rules
-
-pub returns-then-starts-3 : goal.returns-then-starts-3
-returns-then-starts-3 c =
+pub returns-in_err-read_octets : goal.returns-in_err-read_octets
+returns-in_err-read_octets c =
     let a = c.args in
     let b = buffers a.bits.now a.octets.now a.slab.now in
-    line_slab a.line.now a.s b (sym c.starts.ensures ∙ c.if-starts.false) (sym c.starts-2.ensures ∙ c.if-starts-2.false) (sym c.starts-3.ensures ∙ c.if-starts-3.true) c.read_slab.ensures
+    line_octets a.line.now a.s b (sym (strip_is bits_word _) ∙ c.in_default.ensures.cases) (sym (strip_is octets_word _) ∙ c.in-Some-strip_prefix.ensures.cases.0) c.in-Some-strip_prefix.ensures.cases.1 c.read_octets.ensures (c.from_residual-in_err-read_octets.ensures ∙ sym (ap go_on c.in_err-read_octets.was))
 
-pub returns-then-line-ne2 : goal.returns-then-line-ne2
-returns-then-line-ne2 c =
+pub returns-in-Some-strip_prefix : goal.returns-in-Some-strip_prefix
+returns-in-Some-strip_prefix c =
     let a = c.args in
     let b = buffers a.bits.now a.octets.now a.slab.now in
-    line-size a.line.now a.s b (sym c.starts.ensures ∙ c.if-starts.false) (sym c.starts-2.ensures ∙ c.if-starts-2.false) (sym c.starts-3.ensures ∙ c.if-starts-3.false) c.if-line-ne2.true
+    line_octets a.line.now a.s b (sym (strip_is bits_word _) ∙ c.in_default.ensures.cases) (sym (strip_is octets_word _) ∙ c.in-Some-strip_prefix.ensures.cases.0) c.in-Some-strip_prefix.ensures.cases.1 c.read_octets.ensures (sym (ap go_on c.in_ok-read_octets.was))
 
-pub returns-then-starts-4 : goal.returns-then-starts-4
-returns-then-starts-4 c =
+pub returns-in_err-read_slab : goal.returns-in_err-read_slab
+returns-in_err-read_slab c =
     let a = c.args in
     let b = buffers a.bits.now a.octets.now a.slab.now in
-    line_go a.line.now a.s b (sym c.starts.ensures ∙ c.if-starts.false) (sym c.starts-2.ensures ∙ c.if-starts-2.false) (sym c.starts-3.ensures ∙ c.if-starts-3.false) c.if-line-ne2.false (sym c.starts-4.ensures ∙ c.if-starts-4.true)
+    line_slab a.line.now a.s b (sym (strip_is bits_word _) ∙ c.in_default.ensures.cases) (sym (strip_is octets_word _) ∙ c.in_default-strip_prefix.ensures.cases) (sym (strip_is slab_word _) ∙ c.in-Some-strip_prefix-2.ensures.cases.0) c.in-Some-strip_prefix-2.ensures.cases.1 c.read_slab.ensures (c.from_residual-in_err-read_slab.ensures ∙ sym (ap go_on c.in_err-read_slab.was))
+
+pub returns-in-Some-strip_prefix-2 : goal.returns-in-Some-strip_prefix-2
+returns-in-Some-strip_prefix-2 c =
+    let a = c.args in
+    let b = buffers a.bits.now a.octets.now a.slab.now in
+    line_slab a.line.now a.s b (sym (strip_is bits_word _) ∙ c.in_default.ensures.cases) (sym (strip_is octets_word _) ∙ c.in_default-strip_prefix.ensures.cases) (sym (strip_is slab_word _) ∙ c.in-Some-strip_prefix-2.ensures.cases.0) c.in-Some-strip_prefix-2.ensures.cases.1 c.read_slab.ensures (sym (ap go_on c.in_ok-read_slab.was))
+
+pub returns-then-eq : goal.returns-then-eq
+returns-then-eq c =
+    let a = c.args in
+    let b = buffers a.bits.now a.octets.now a.slab.now in
+    line_go a.line.now a.s b (sym (strip_is bits_word _) ∙ c.in_default.ensures.cases) (sym (strip_is octets_word _) ∙ c.in_default-strip_prefix.ensures.cases) (sym (strip_is slab_word _) ∙ c.in_default-strip_prefix-2.ensures.cases) (search rules)
 
 pub returns : goal.returns
 returns c =
     let a = c.args in
     let b = buffers a.bits.now a.octets.now a.slab.now in
-    line_other a.line.now a.s b (sym c.starts.ensures ∙ c.if-starts.false) (sym c.starts-2.ensures ∙ c.if-starts-2.false) (sym c.starts-3.ensures ∙ c.if-starts-3.false) c.if-line-ne2.false (sym c.starts-4.ensures ∙ c.if-starts-4.false)
+    line_other a.line.now a.s b (sym (strip_is bits_word _) ∙ c.in_default.ensures.cases) (sym (strip_is octets_word _) ∙ c.in_default-strip_prefix.ensures.cases) (sym (strip_is slab_word _) ∙ c.in_default-strip_prefix-2.ensures.cases) (search rules)

@@ -19,23 +19,23 @@ returns-then-s-eq0 c =
     row-none a.s a.octets.now _ c.if-s-eq0.true
     ∙ only_so a.s.octet a.octets.now _ (not-false _ c.if-not-s.false)
 
-pub returns-then-left-s : goal.returns-then-left-s
-returns-then-left-s c =
+pub returns-then-saturating_sub-s : goal.returns-then-saturating_sub-s
+returns-then-saturating_sub-s c =
     let a = c.args in
-    placed-full _ _ _ _ _ _ (rw c.left.ensures at c.if-left-s.true) ∙ row-some a.s a.octets.now _ c.if-s-eq0.false
+    placed-full _ _ _ _ _ _ (rw c.saturating_sub.ensures at c.if-saturating_sub-s.true) ∙ row-some a.s a.octets.now _ c.if-s-eq0.false
     ∙ only_so a.s.octet a.octets.now _ (not-false _ c.if-not-s.false)
 
 pub returns-then-not-is_bytes : goal.returns-then-not-is_bytes
 returns-then-not-is_bytes c =
     let a = c.args in
-    placed_bad _ _ _ _ _ _ (rw c.left.ensures at c.if-left-s.false) (sym c.is_bytes.ensures ∙ not-true _ c.if-not-is_bytes.true-raw) ∙ row-some a.s a.octets.now _ c.if-s-eq0.false
+    placed_bad _ _ _ _ _ _ (rw c.saturating_sub.ensures at c.if-saturating_sub-s.false) (sym c.is_bytes.ensures ∙ not-true _ c.if-not-is_bytes.true-raw) ∙ row-some a.s a.octets.now _ c.if-s-eq0.false
     ∙ only_so a.s.octet a.octets.now _ (not-false _ c.if-not-s.false)
 
 pub fill_bytes-requires : goal.fill_bytes-requires
 fill_bytes-requires c =
     let a = c.args in
     let s = c.args.s in
-    let h : s.l ≤ length a.octets.now - s.octets = rw c.left.ensures at c.if-left-s.false in
+    let h : s.l ≤ length a.octets.now - s.octets = rw c.saturating_sub.ensures at c.if-saturating_sub-s.false in
     let e : s.octets + s.l - s.octets ≡ s.l = omega arith in
     let p = part_long a.octets.now s.octets s.l _ h e in
     let g = bytes_are s.l a.digits.now (sym c.is_bytes.ensures ∙ not-false _ c.if-not-is_bytes.false-raw) in
@@ -45,7 +45,7 @@ pub returns : goal.returns
 returns c =
     let a = c.args in
     let s = c.args.s in
-    let h : s.l ≤ length a.octets.now - s.octets = rw c.left.ensures at c.if-left-s.false in
+    let h : s.l ≤ length a.octets.now - s.octets = rw c.saturating_sub.ensures at c.if-saturating_sub-s.false in
     let e : s.octets + s.l - s.octets ≡ s.l = omega arith in
     placed_in _ _ _ _ _ _ h (sym c.is_bytes.ensures ∙ not-false _ c.if-not-is_bytes.false-raw) e c.fill_bytes.ensures ∙ row-some s a.octets.now _ c.if-s-eq0.false
     ∙ only_so a.s.octet a.octets.now _ (not-false _ c.if-not-s.false)

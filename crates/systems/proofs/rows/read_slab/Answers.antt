@@ -1,7 +1,7 @@
 -- `rows::read_slab` meets its contract: bytes that are due, are good and have room are put at the front. Assumes nothing.
 use native.Mathlib.Omega.{arith}
 use Prim.Native.Nat.{ℕ, ◌-◌, ◌*◌, ◌/◌, ◌≤◌}
-use mathlib.Core.Path.{◌≡◌, sym, ap, ◌∙◌}
+use mathlib.Core.Path.{refl, sym, ap, ◌∙◌}
 use lib.ListN.{length}
 use borrow.Author.Tests.{not-true, not-false}
 use Rattle.systems.specs.Digits.{bytes_are}
@@ -29,8 +29,7 @@ fill_bytes-requires c =
     let a = c.args in
     let n = length a.digits.now / 2 in
     let h : n ≤ length a.slab.now - 0 = omega arith in
-    let e : n - 0 ≡ n = omega arith in
-    let p = part_long a.slab.now 0 n _ h e in
+    let p = part_long a.slab.now 0 n _ h refl in
     let g = bytes_are n a.digits.now (sym c.is_bytes.ensures ∙ not-false _ c.if-not-is_bytes.false-raw) in
     (g.0, g.1 ∙ ap (λ (n : ℕ). 2 * n) (sym p))
 
@@ -39,6 +38,5 @@ returns c =
     let a = c.args in
     let n = length a.digits.now / 2 in
     let h : n ≤ length a.slab.now - 0 = omega arith in
-    let e : n - 0 ≡ n = omega arith in
-    placed_in _ 0 n _ a.slab.now _ h (sym c.is_bytes.ensures ∙ not-false _ c.if-not-is_bytes.false-raw) e c.fill_bytes.ensures
+    placed_in _ 0 n _ a.slab.now _ h (sym c.is_bytes.ensures ∙ not-false _ c.if-not-is_bytes.false-raw) refl c.fill_bytes.ensures
     ∙ only_so a.s.due a.slab.now _ (not-false _ c.if-not-s.false)

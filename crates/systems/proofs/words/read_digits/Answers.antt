@@ -1,28 +1,26 @@
 -- `words::read_digits` meets its contract: what is left says the same number. Assumes nothing.
-use native.Mathlib.Omega.{arith}
-use mathlib.Core.Path.{refl, sym, ◌∙◌}
-use Rattle.systems.specs.Text.{digits_space, digits_low, digits_high, digits_large, digits_next, digits_over}
+use Rattle.std.proofs.Common.{◌≡◌, ℕ, ◌+◌, Some, ap, sym, ◌∙◌, length, arith}
+use Rattle.systems.specs.Text.{digits_space, digits_bad, digits_next, digits_over}
 use Rattle.systems.proofs.words.read_digits.Goals as goal
 
-pub loop-i-init : goal.loop-i-init
-loop-i-init c = (c.requires, omega arith, refl)
+pub returns-in-32 : goal.returns-in-32
+returns-in-32 c = sym (c.loop-i.invariant.1 ∙ digits_space _ _ _ c.loop-i-test.true c.in-32.is)
 
-pub returns-then-c-eq32 : goal.returns-then-c-eq32
-returns-then-c-eq32 c = sym (c.loop-i.invariant.2 ∙ digits_space _ _ _ c.loop-i-test.true c.if-c-eq32.true)
+pub returns-in_default : goal.returns-in_default
+returns-in_default c = sym (c.loop-i.invariant.1 ∙ digits_bad _ _ _ c.loop-i-test.true (λ e. omega arith) (λ a b. omega arith))
 
-pub returns-then-c-lt48 : goal.returns-then-c-lt48
-returns-then-c-lt48 c = sym (c.loop-i.invariant.2 ∙ digits_low _ _ _ c.loop-i-test.true c.if-c-eq32.false c.if-c-lt48.true)
+pub returns-in_default-2 : goal.returns-in_default-2
+returns-in_default-2 c = sym (c.loop-i.invariant.1 ∙ digits_bad _ _ _ c.loop-i-test.true (λ e. omega arith) (λ a b. omega arith))
 
-pub returns-then-c-gt57 : goal.returns-then-c-gt57
-returns-then-c-gt57 c = sym (c.loop-i.invariant.2 ∙ digits_high _ _ _ c.loop-i-test.true c.if-c-eq32.false c.if-c-lt48.false c.if-c-gt57.true)
-
-pub returns-then-value-ge1000000 : goal.returns-then-value-ge1000000
-returns-then-value-ge1000000 c = sym (c.loop-i.invariant.2 ∙ digits_large _ _ _ c.loop-i-test.true c.if-c-eq32.false c.if-c-lt48.false c.if-c-gt57.false c.if-value-ge1000000.true)
+pub returns-in_default-3 : goal.returns-in_default-3
+returns-in_default-3 c = sym (c.loop-i.invariant.1 ∙ digits_bad _ _ _ c.loop-i-test.true (λ e. omega arith) (λ a b. omega arith))
 
 pub loop-i-preserved : goal.loop-i-preserved
 loop-i-preserved c =
-    let e = c.loop-i.invariant.2 ∙ digits_next _ _ _ c.loop-i-test.true c.if-c-eq32.false c.if-c-lt48.false c.if-c-gt57.false c.if-value-ge1000000.false in
-    (omega arith, omega (arith, c.wide.ensures), rw c.wide.ensures e)
+    let e = c.loop-i.invariant.1 ∙ digits_next _ _ _ c.loop-i-test.true (λ e. omega arith) (omega arith) (omega arith) c.if-value-lt1000000.true in
+    (omega (arith, c.from.ensures), rw c.from.ensures e)
 
 pub returns : goal.returns
-returns c = sym (c.loop-i.invariant.2 ∙ digits_over _ _ _ c.loop-i-test.false)
+returns c =
+    let e : c.loop-i.i ≡ length c.args.line.now = omega arith in
+    sym (c.loop-i.invariant.1 ∙ digits_over _ _ _ c.loop-i-test.false ∙ ap (λ (n : ℕ). Some (c.loop-i.value, n + 1)) e)

@@ -1,5 +1,0 @@
-use Rattle.singles.specs.Figures.{first_done}
-use Rattle.singles.proofs.first_loss.Goals as goal
-
-pub returns : goal.returns
-returns c = first_done c.requires.0 c.requires.1 c.take_one-k.ensures c.lose_first.ensures
