@@ -24,7 +24,7 @@ fn sizes_of(v: &[usize], labels: &[usize], sizes: &mut [usize])
     }
 }
 
-// The smallest label below n, and not 0, of the greatest size; `sizes` is room to count in.
+// The smallest label below n, and not 0, of the greatest size; `sizes` is room to count in, lent since the solver takes no memory of its own.
 fn biggest(v: &[usize], labels: &[usize], n: usize, sizes: &mut [usize]) -> usize
     requires under { Under (length labels.now) v.now }
     requires labelled { Labelled (told labels.now) v.now n }
@@ -79,7 +79,8 @@ fn choose_pair(
     at_node(g, node, e, ones)
 }
 
-// The row rule: r is the least positive number of ones of a row of e, s the rows with a single one in their order, n the next label.
+// The row rule: r is the least positive number of ones of a row of e, s the rows with a single one in their order, n the next label. The labels
+// and n are a `Labels`, which is only read here.
 pub fn choose(
     g: Grid<'_>,
     r: usize,

@@ -11,7 +11,7 @@ ghost use Rattle.columns.specs.Sweep.{fronted, swept_out, Moved, Laid, LastZero}
 
 use grid::Grid;
 
-// Exchanges the entries at places i and j.
+// Exchanges the entries at places i and j: `swap`, told in the words of the specs.
 pub fn swap(d: &mut [usize], i: usize, j: usize)
     requires { (i < length d.old) × (j < length d.old) }
     ensures { d.new ≡ swapped i j d.old }
@@ -35,7 +35,7 @@ pub fn bring_row(e: &mut [usize], x: usize)
     swap(e, 0, k);
 }
 
-// The rightmost place from k on whose column has a zero of row x.
+// The rightmost place from k on whose column has a zero of row x. A `for`, since what the closure of an `rposition` asks did not prove.
 fn last_zero(v: &[usize], g: Grid<'_>, x: usize, k: usize) -> Option<usize>
     requires l_in_bounds { x * g.l + g.l ≤ length g.bits.now }
     requires under { Under g.l v.now }

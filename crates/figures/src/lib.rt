@@ -60,7 +60,7 @@ pub fn least_positive(e: &[usize], ones: &[usize]) -> usize
         .unwrap_or(0)
 }
 
-// Of the rows b and y the one of lesser degree, b where the two have the same.
+// Of the rows b and y the one of lesser degree, b where the two have the same. `reduce` with it says the tie, which a minimum by a key leaves to the library.
 fn lighter(deg: &[usize], b: usize, y: usize) -> usize
     requires { (b < length deg.now) × (y < length deg.now) }
     ensures { result ≡ cond (ltb (told deg.now y) (told deg.now b)) y b }

@@ -5,7 +5,7 @@ ghost use Rattle.std.specs.Prelude.{◌≤◌, ◌<◌, length};
 
 use std::io;
 
-// The number that a digit says, or 0.
+// The number that a digit says, or 0, where `systems` has none.
 fn nibble(c: u8) -> u8
     ensures { result < 16 }
 {

@@ -53,7 +53,7 @@ fn differ(a: usize, b: usize) -> bool
     a != 0 && b != 0 && a != b
 }
 
-// The first place of v, from k on, whose column has a one of row y.
+// The first place of v, from k on, whose column has a one of row y. A `for`, since what the closure of a `position` asks did not prove.
 fn next_one(g: Grid<'_>, y: usize, v: &[usize], k: usize) -> Option<usize>
     requires { (y * g.l + g.l ≤ length g.bits.now) × (Under g.l v.now) × (k ≤ length v.now) }
     ensures { Next (bit g.entry.l g.entry.bits.now y) v.now k result }

@@ -64,6 +64,7 @@ fn log(a: u8) -> u8
     requires { 0 < a }
     ensures { (result < 255) × (power 2 result ≡ a) }
 {
+    // With `usize::from` the proof would have to name terms of the library's own.
     OCT_LOG[a as usize]
 }
 

@@ -29,6 +29,7 @@ fn join(kind: u64, scalar: u8, dest: usize, src: usize) -> u64
     requires { (kind < 256) × (dest < 65536) × (src < 65536) }
     ensures { result ≡ word kind scalar dest src }
 {
+    // `u64` has no `From<usize>`; rows fit.
     kind * 1099511627776 + u64::from(scalar) * 4294967296 + dest as u64 * 65536 + src as u64
 }
 
@@ -50,6 +51,7 @@ pub fn pack(op: Op) -> u64
 pub fn unpack(w: u64) -> Option<Op>
     ensures { result ≡ meaning w }
 {
+    // Each field fits what it is cut to; there is no `From<u64>`.
     let scalar = (w / 4294967296 % 256) as u8;
     let dest = (w / 65536 % 65536) as usize;
     let src = (w % 65536) as usize;

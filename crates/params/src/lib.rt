@@ -516,6 +516,7 @@ pub struct BadCount;
 fn find(table: &[u64], k: usize) -> Option<u64>
     ensures { result ≡ scan k table.now }
 {
+    // `u64` has no `From<usize>`.
     table.iter().copied().find(|row| k as u64 <= *row / K_UNIT)
 }
 

@@ -154,6 +154,7 @@ fn put_meaning<W: Write>(
 }
 
 // Solves the case whose inputs are at the front of the buffers, and says all that there is to say of its answer.
+// The arrays stand here and in `vectors`, which lends them on to other functions.
 fn solve_case<W: Write>(
     out: &mut W,
     s: System,

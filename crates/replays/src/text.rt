@@ -74,6 +74,7 @@ pub(crate) fn word(text: &[u8], at: usize) -> Entry<u64> {
 pub(crate) fn at_most(value: u64, most: usize) -> usize
     ensures { result ≤ most }
 {
+    // `usize` has no `From<u64>`.
     most.min(value as usize)
 }
 
@@ -81,6 +82,7 @@ pub(crate) fn at_most(value: u64, most: usize) -> usize
 fn narrow(value: u64) -> u8
     ensures { result ≡ value % 256 }
 {
+    // The last byte; there is no `From<u64>`.
     (value % 256) as u8
 }
 

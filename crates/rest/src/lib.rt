@@ -113,7 +113,7 @@ pub fn phase_four(g: Grid<'_>, i: usize, c: &[usize], d: &[usize], journal: &mut
     }
 }
 
-// The symbol of column c[k] is in row d[k]: into a cleared room, by column.
+// The symbol of column c[k] is in row d[k]: into a cleared room, by column. From the last place on, as the definition goes.
 pub fn order_of(order: &mut [usize], c: &[usize], d: &[usize])
     requires { Ordering order.old c.now d.now }
     ensures { order.new ≡ placed (length c.now) c.now d.now order.old }
@@ -124,7 +124,7 @@ pub fn order_of(order: &mut [usize], c: &[usize], d: &[usize])
     }
 }
 
-// What a row makes of the vector's entries at the columns cs: the products, summed.
+// What a row makes of the vector's entries at the columns cs: the products, summed, from the last place on, as the definition goes.
 fn weigh_row(row: &[u8], cs: &[usize], vector: &[u8]) -> u8
     requires { Weighing row.now cs.now vector.now }
     ensures { result ≡ weigh row.now (looked vector.now cs.now) }

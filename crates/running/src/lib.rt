@@ -56,6 +56,7 @@ fn run(
         &mut journal,
     ) {
         Err(_) => {
+            // At each end, since a full list comes before what the phase would answer; so in `ending`.
             let used = journal.tally.used;
             if journal.room.len() < used {
                 return Err(Refusal::ListFull);

@@ -209,6 +209,7 @@ impl Page<'_> {
 fn digit(x: usize) -> u8
     ensures { result ≡ 48 + x % 10 }
 {
+    // A digit fits; there is no `From<usize>`.
     48 + (x % 10) as u8
 }
 

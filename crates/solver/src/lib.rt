@@ -49,7 +49,7 @@ fn judge(
 }
 
 // Solves a system of m rows of t bytes for k source symbols: the binary matrix by rows, and the octet rows, which stand in rows S to S + H - 1
-// where they are given; where they are not, every row is binary.
+// where they are given; where they are not, every row is binary. Slab, list, order and vector are lent one by one, since a caller reads each after the call.
 pub fn solve(
     k: usize,
     m: usize,

@@ -59,6 +59,7 @@ fn number4(form: &[u8], at: usize) -> usize
     requires { at + 3 < length form.now }
     ensures { (result ≡ number4 form.now at) × (result < 4294967296) }
 {
+    // `usize` has no `From<u32>`.
     u32::from_be_bytes([form[at], form[at + 1], form[at + 2], form[at + 3]]) as usize
 }
 
@@ -209,6 +210,7 @@ fn word_or_zero(form: &[u8], n: usize, i: usize) -> u64
 }
 
 // The n operations of a form into the room, then zeros.
+// A function for each of the three rooms, whose entries come from three definitions.
 fn fill_list(form: &[u8], n: usize, list: &mut [u64])
     requires { (13 + 4 * n ≤ length form.now) × (n ≤ length list.old) }
     ensures { list.new ≡ padded (words_at form.now 13 n) (length list.old) }
@@ -276,6 +278,7 @@ fn head(follow: usize, m: usize, l: usize, n: usize) -> [u8; 13]
     requires { (follow < 4294967296) × (m < 65536) × (l < 65536) × (n < 4294967296) }
     ensures { result ≡ head_of follow m l n [] }
 {
+    // Each number fits the bytes that it is cut to.
     let [a, b, c, d] = (follow as u32).to_be_bytes();
     let [e, f] = (m as u16).to_be_bytes();
     let [g, h] = (l as u16).to_be_bytes();
@@ -304,6 +307,7 @@ fn tail_byte(order: Option<&[usize]>, k: usize) -> u8
     if k == 0 {
         return 1;
     }
+    // The last byte of an entry; there is no `From<usize>`.
     entries.get(k - 1).map_or(0, |x| (*x % 256) as u8)
 }
 

@@ -81,6 +81,7 @@ fn read_bits(digits: &[u8], s: System, bits: &mut [u8]) -> Option<System>
 }
 
 // An octet row. A case without octet rows has no such line.
+// Not one with `read_bits`: the digits are told, tested and put in another way.
 fn read_octets(digits: &[u8], s: System, octets: &mut [u8]) -> Option<System>
     ensures { filled result octets.new ≡ octets_on digits.now s octets.old }
 {
