@@ -25,13 +25,13 @@ impl<'a> Grid<'a> {
         self.bits[x * self.l + q] == 1
     }
 
-    // The ones of row x in the columns v.
+    // The ones of row x in the columns v. Each test is added as a number, since `filter` and `count` branch at each entry.
     pub fn count(self, x: usize, v: &[usize]) -> usize
         requires l_in_bounds { x * self.l + self.l ≤ length self.bits.now }
         requires under { Under self.l v.now }
         ensures { result ≡ ones (bit self.entry.l self.entry.bits.now) v.now x }
     {
-        v.iter().filter(|&&q| self.has(x, q)).count()
+        v.iter().map(|&q| usize::from(self.has(x, q))).sum()
     }
 }
 
