@@ -91,7 +91,9 @@ module _ (m l t : ℕ) (ws : List ℕ) (b : Bool) (xs : List ℕ) where
       where
         at : (c : Check) → number (replayed_by c t ws b s).answer ≢ 0 → (replayed_by c t ws b s).slab ≡ s
         at (Ok p) f = absurd (f (done b))
-        at (Err r) f = refl
+        at (Err BadShape) f = refl
+        at (Err BadList) f = refl
+        at (Err NotUndoable) f = refl
 
     pub undo-refused : number (undone m l t ws b xs s).answer ≢ 0 → (undone m l t ws b xs s).slab ≡ s
     unfolding undone
@@ -103,7 +105,9 @@ module _ (m l t : ℕ) (ws : List ℕ) (b : Bool) (xs : List ℕ) where
 
         at : (c : Check) → number (undone_by c t ws s).answer ≢ 0 → (undone_by c t ws s).slab ≡ s
         at (Ok p) f = which (undoable (ops_of ws)) (acts t (undo (ops_of ws)) s) f
-        at (Err r) f = refl
+        at (Err BadShape) f = refl
+        at (Err BadList) f = refl
+        at (Err NotUndoable) f = refl
 
   module _ (s : List ℕ) (bytes : Bytes s) where
     pub undo_replay : number (undone m l t ws b xs s).answer ≡ 0 → undone m l t ws b xs (replayed m l t ws b xs s).slab ≡ outcome (Ok InPlace) s

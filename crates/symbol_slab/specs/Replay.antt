@@ -13,6 +13,7 @@
 --   replay_number, undo_number   the number of the answer, by what is refused first
 --   Replayed, Undone   what `replay` and `undo` promise of their answer r and the slab u that they leave
 --   replay_met, undo_met       the answer and the slab keep the promise
+--   replay_kept, undo_kept     so do those of each refusal, which leaves the slab as it was
 -- Assumes nothing.
 use Rattle.std.specs.Prelude.{◌≡◌, Bool, ◌&&◌, ℕ, ◌*◌, leb, eqb, length, get_or, Result, Ok, Err}
 use Rattle.std.proofs.Math.Path.{refl, ap}
@@ -127,6 +128,16 @@ module _ {m l t : ℕ} {ws : List ℕ} {b : Bool} {xs s : List ℕ} {r : Answer}
       at true false c = refl
       at false q c = refl
 
+  -- by cases of the refusal, so that each is looked at by itself
+  pub replay_kept : (e : Refusal) → outcome r u ≡ outcome (Err e) s → Err e ≡ checked m l t ws b xs (length s) → Replayed m l t ws b xs s r u
+  unfolding replayed
+  replay_kept e f g = replay_met (f ∙ (at e ∙ ap (λ (c : Check). replayed_by c t ws b s) g))
+    where
+      at : (e : Refusal) → outcome (Err e) s ≡ replayed_by (Err e) t ws b s
+      at BadShape = refl
+      at BadList = refl
+      at NotUndoable = refl
+
   pub undo_met : outcome r u ≡ undone m l t ws b xs s → Undone m l t ws b xs s r u
   unfolding undone undo_number checked
   undo_met e =
@@ -143,3 +154,12 @@ module _ {m l t : ℕ} {ws : List ℕ} {b : Bool} {xs s : List ℕ} {r : Answer}
       at true true = which (undoable (ops_of ws)) (acts t (undo (ops_of ws)) s)
       at true false = refl
       at false q = refl
+
+  pub undo_kept : (e : Refusal) → outcome r u ≡ outcome (Err e) s → Err e ≡ checked m l t ws b xs (length s) → Undone m l t ws b xs s r u
+  unfolding undone
+  undo_kept e f g = undo_met (f ∙ (at e ∙ ap (λ (c : Check). undone_by c t ws s) g))
+    where
+      at : (e : Refusal) → outcome (Err e) s ≡ undone_by (Err e) t ws s
+      at BadShape = refl
+      at BadList = refl
+      at NotUndoable = refl
