@@ -1,6 +1,7 @@
 -- Labels that are changed.
 --   Part        the labels of the columns below c are the new ones, the others are as they were
 --   part-next   the label of one more column becomes the new one
+--   joint-first, joint-second   the joint label of two columns is the first's, or the second's, if only that one has a label
 --   alike       where the pair does not bring two labels together only its own columns change
 -- Assumes nothing.
 use Rattle.std.specs.Prelude.{◌≡◌, refl, Bool, true, false, cond, not, ◌&&◌, ◌||◌, List, ℕ, zero, suc, ◌+◌, ◌<◌, ◌≤◌, length, set, eqb, ltb}
@@ -57,12 +58,12 @@ part-next l₀ n p q l c j x h i hp hq e f =
           ∙ ap (λ (b : Bool). cond b (joint (labs l₀ p) (labs l₀ q) n) (labs l₀ c)) (sym (touched_labels l₀ p q c hp hq)));
     }
 
-joint-first : (a b n : ℕ) → (a ≡ 0 → ⊥) → b ≡ 0 → a ≡ joint a b n
+pub joint-first : (a b n : ℕ) → (a ≡ 0 → ⊥) → b ≡ 0 → a ≡ joint a b n
 joint-first zero b n e f = absurd (e refl)
 joint-first (suc a) zero n e f = refl
 joint-first (suc a) (suc b) n e f = absurd (omega arith)
 
-joint-second : (a b n : ℕ) → a ≡ 0 → (b ≡ 0 → ⊥) → b ≡ joint a b n
+pub joint-second : (a b n : ℕ) → a ≡ 0 → (b ≡ 0 → ⊥) → b ≡ joint a b n
 joint-second zero zero n e f = absurd (f refl)
 joint-second zero (suc b) n e f = refl
 joint-second (suc a) b n e f = absurd (omega arith)
