@@ -3,10 +3,20 @@
 use mathlib.Core.Path.{refl, ap, ◌∙◌}
 use Prim.Native.Nat.{◌-◌}
 use native.Mathlib.Omega.{arith}
-use lib.ListN.{length}
+use lib.ListN.{length, get_or}
+use Rattle.octet.specs.Octet.{add, mul}
 use Rattle.octets.specs.Laws.{length-fma_row, get_or-fma_row}
 use Rattle.octets.specs.Spans.{fma_at, span_join, span_all}
 use Rattle.octets.proofs.fma_long.Goals as goal
+
+pub loop-i-preserved : goal.loop-i-preserved
+loop-i-preserved c =
+    let a = c.args in
+    let i = c.loop-i.invariant.1 in (
+      omega arith,
+      span_join i c.fma_block.ensures (omega arith) (omega arith)
+          (λ x p q. ap (λ y. add y (mul a.k (get_or a.src.now x 0))) (i.high x p)),
+    )
 
 pub returns : goal.returns
 returns c =
