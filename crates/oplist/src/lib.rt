@@ -165,7 +165,10 @@ pub fn list_fine(m: usize, list: &[u64]) -> bool
 fn word_undoable(w: u64) -> bool
     ensures { result ≡ word_undoable (meaning w) }
 {
-    !matches!(unpack(w), Some(Op::MulAssign(_, 0)))
+    match unpack(w) {
+        Some(Op::MulAssign(_, scalar)) => scalar != 0,
+        _ => true,
+    }
 }
 
 // Whether a list can be undone: it has no MulAssign by zero.
