@@ -8,12 +8,13 @@
 --   is_bytes n      digits of n bytes
 --   digits_is       the library's test of every byte;  digits_all   a byte of those that passed it
 --   digit_or        the value of a digit, or 0, has the digit's bits
+--   bit_shifted     a bit of a digit, by a shift
 --   get_or-bytes, length-bytes, bit_at, length_bits   bytes and bits one by one
 --   clear-not, clear_next, clear-over   a loop that looks for a bit
 --   row_within      a row of bits has enough digits
 --   bytes_are       digits of so many bytes
 -- Assumes nothing.
-use Rattle.std.specs.Prelude.{ℕ, zero, suc, Option, Some, None, ◌+◌, ◌-◌, ◌*◌, ◌/◌, ◌%◌, ◌≤◌, ◌<◌, Bool, cond, ◌&&◌, List, [], ◌∷◌, leb, ltb, get_or, take, drop}
+use Rattle.std.specs.Prelude.{ℕ, zero, suc, Option, Some, None, ◌+◌, ◌-◌, ◌*◌, ◌/◌, ◌%◌, ◌^◌, ◌≤◌, ◌<◌, Bool, cond, ◌&&◌, List, [], ◌∷◌, leb, ltb, get_or, take, drop}
 use Rattle.std.proofs.Math.Path.{◌≡◌, refl}
 use Rattle.std.specs.List.{list_all}
 use Rattle.std.specs.Option.{MatchOption, unwrap_or}
@@ -106,6 +107,15 @@ bit_at ds i k h e =
     let q : 4 * (i / 4) + i % 4 ≡ i = omega arith in
     ap (λ (n : ℕ). get_or (bits_in ds) n 0) (sym q) ∙ get_d_bits ds (i / 4) (i % 4) (omega arith) (omega arith)
     ∙ ap (λ (n : ℕ). get_or (bits_in (get_or ds (i / 4) 0 ∷ [])) n 0) e
+
+-- d is the digit's value, or 0
+pub bit_shifted : (c d k : ℕ) → d ≡ nibble_of c % 16 → k < 4 → d / 2 ^ (3 - k) % 2 ≡ get_or (bits_in (c ∷ [])) k 0
+unfolding bits_in
+bit_shifted c d zero e h = omega (arith, e)
+bit_shifted c d (suc zero) e h = omega (arith, e)
+bit_shifted c d (suc (suc zero)) e h = omega (arith, e)
+bit_shifted c d (suc (suc (suc zero))) e h = omega (arith, e)
+bit_shifted c d (suc (suc (suc (suc k)))) e h = absurd (omega arith)
 
 pub length-bytes : (ds : List ℕ) (n : ℕ) → length ds ≡ 2 * n → length (bytes_of ds) ≡ n
 unfolding bytes_of

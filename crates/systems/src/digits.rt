@@ -2,6 +2,19 @@
 ghost use Rattle.std.specs.Prelude.{◌≡◌, true, ◌+◌, ◌*◌, ◌≤◌, ◌<◌, length, get_or, take, drop, leb, is_some, MatchOption};
 ghost use Rattle.systems.specs.Digits.{nibble_of, are_digits, bytes_of, bits_in, clear};
 
+// The value of a digit. It does not ask whether the byte is one, so that a loop over it becomes vector code.
+#[tactic(auto, using(std::proofs::lemmas::Bool::Decides::nat_tests), unfolding(crate::specs::Digits::nibble_of))]
+fn digit_value(digit: u8) -> u8
+    requires { nibble_of digit < 16 }
+    ensures { result ≡ nibble_of digit }
+{
+    if digit <= b'9' {
+        digit - b'0'
+    } else {
+        digit - b'a' + 10
+    }
+}
+
 // The value of a digit, where it is one.
 #[tactic(auto, using(std::proofs::lemmas::Bool::Decides::nat_tests), unfolding(crate::specs::Digits::nibble_of))]
 fn nibble(c: u8) -> Option<u8>
@@ -9,8 +22,7 @@ fn nibble(c: u8) -> Option<u8>
     ensures value { MatchOption result (nibble_of c ≡ 16) (λ d. (d ≡ nibble_of c) × (d < 16)) }
 {
     match c {
-        b'0'..=b'9' => Some(c - b'0'),
-        b'a'..=b'f' => Some(c - b'a' + 10),
+        b'0'..=b'9' | b'a'..=b'f' => Some(digit_value(c)),
         _ => None,
     }
 }
@@ -27,7 +39,7 @@ fn byte(high: u8, low: u8) -> u8
     requires { (nibble_of high < 16) × (nibble_of low < 16) }
     ensures { result ≡ nibble_of high * 16 + nibble_of low }
 {
-    nibble(high).unwrap() * 16 + nibble(low).unwrap()
+    digit_value(high) * 16 + digit_value(low)
 }
 
 // The bytes of twice as many digits.
@@ -46,12 +58,7 @@ fn bit(digits: &[u8], i: usize) -> u8
     ensures { result ≡ get_or (bits_in digits.now) i 0 }
 {
     let d = nibble(digits[i / 4]).unwrap_or(0);
-    match i % 4 {
-        0 => d / 8 % 2,
-        1 => d / 4 % 2,
-        2 => d / 2 % 2,
-        _ => d % 2,
-    }
+    (d >> (3 - i % 4)) % 2
 }
 
 // The first bits of the digits, from the top.
