@@ -3,10 +3,24 @@ use std::io;
 use std::io::Write;
 use systems::Place;
 
+// How many bytes are spelt and written at once: a writer without a buffer makes a call of the system for each write.
+const BLOCK: usize = 256;
+
+// The hexadecimal digit of a number's last four bits.
+fn digit(n: u8) -> u8 {
+    let d = n % 16;
+    if d < 10 { b'0' + d } else { b'a' - 10 + d }
+}
+
 // Writes bytes as digits, two for each.
 pub fn put_bytes<W: Write>(out: &mut W, bytes: &[u8]) -> io::Result<()> {
-    for b in bytes {
-        write!(out, "{b:02x}")?;
+    for block in bytes.chunks(BLOCK) {
+        let mut digits = [0u8; 2 * BLOCK];
+        for (i, b) in block.iter().enumerate() {
+            digits[2 * i] = digit(*b / 16);
+            digits[2 * i + 1] = digit(*b);
+        }
+        out.write_all(&digits[..2 * block.len()])?;
     }
     Ok(())
 }
