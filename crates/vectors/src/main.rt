@@ -2,7 +2,7 @@
 // for the next. A case that does not fit what can be held is refused, and a line that does not is skipped; reading goes on behind it.
 #![tactic(auto)]
 
-ghost use Rattle.std.specs.Prelude.{◌≤◌, ◌<◌, length, IfSome};
+ghost use Rattle.std.specs.Prelude.{◌≤◌, ◌<◌, length, IfOk, IfSome};
 
 use oplist::Op;
 use programs::put_bytes;
@@ -197,7 +197,9 @@ fn one<W: Write>(
 }
 
 // Every case of a part; where the rest begins that has to wait.
-fn all<W: Write>(out: &mut W, part: Part) -> io::Result<usize> {
+fn all<W: Write>(out: &mut W, part: Part) -> io::Result<usize>
+    ensures { IfOk result (λ n. n ≤ length part.entry.text.now) }
+{
     let mut bits = [0u8; programs::BITS_ROOM];
     let mut octets = [0u8; programs::OCTETS_ROOM];
     let mut slab = [0u8; SLAB_ROOM];
@@ -205,7 +207,7 @@ fn all<W: Write>(out: &mut W, part: Part) -> io::Result<usize> {
     let mut at = 0;
     while at < text.len() {
         match one(out, part, at, &mut bits, &mut octets, &mut slab)? {
-            Next::Waits(place) => return Ok(place),
+            Next::Waits(place) => return Ok(place.min(text.len())),
             Next::On(place) => {
                 if place <= at {
                     break;
