@@ -1,6 +1,7 @@
 // Calls with a room that is one short, or with a fault or two.
 use crate::calls::again;
 use crate::said::is_right;
+use crate::same::is_refusal;
 use crate::told::{First, Lent, Seen};
 use solver::{Refusal, Rooms};
 use std::io;
@@ -62,7 +63,7 @@ pub(crate) const FAULTS: [Fault; 9] = [
 
 // Whether a call was refused for this, and changed nothing.
 pub(crate) fn is_refused(e: Seen, refusal: Refusal) -> bool {
-    e.unchanged && e.answer == Err(refusal)
+    e.unchanged && is_refusal(e.answer, refusal)
 }
 
 // The working rooms, with one of them one shorter.

@@ -2,6 +2,7 @@
 use crate::MOST_LIST;
 use crate::calls::again;
 use crate::said::is_right_at;
+use crate::same::is_refusal;
 use crate::told::{First, Halved, Lent, Seen};
 use solver::Refusal;
 use std::io;
@@ -14,7 +15,7 @@ pub(crate) fn is_same(e: Seen, first: First) -> bool {
 
 // Whether a call found its list room too short.
 fn is_full(e: Seen) -> bool {
-    e.emptied && e.answer == Err(Refusal::ListFull)
+    e.emptied && is_refusal(e.answer, Refusal::ListFull)
 }
 
 // The smallest list room that is not too short.
@@ -39,7 +40,7 @@ pub(crate) fn halve<W: Write>(
         )? {
             right = right.saturating_add(1);
         }
-        if e.answer == Err(Refusal::ListFull) {
+        if is_refusal(e.answer, Refusal::ListFull) {
             low = room + 1;
         } else {
             high = room;

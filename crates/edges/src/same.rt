@@ -1,5 +1,9 @@
-// Whether slices are as they are to be.
+// Whether slices and answers are as they are to be.
+ghost use Rattle.std.specs.Prelude.{◌≡◌};
+ghost use Rattle.answers.specs.Answers.{number_of};
+
 use crate::told::First;
+use solver::{Answer, Refusal};
 
 // Whether every entry is this one.
 pub(crate) fn all_are<T: PartialEq + Copy>(s: &[T], x: T) -> bool {
@@ -23,4 +27,24 @@ pub(crate) fn outputs_begin(
         && first.list.starts_with(now_list)
         && first.order.starts_with(now_order)
         && first.vector.starts_with(now_vector)
+}
+
+// The number of a refusal, as the solver is to answer it.
+fn number_of_refusal(refusal: Refusal) -> usize
+    ensures { result ≡ number_of (Err refusal) }
+{
+    match refusal {
+        Refusal::BadCount => 1,
+        Refusal::BadShape => 2,
+        Refusal::BadEntry => 3,
+        Refusal::NoRoom => 4,
+        Refusal::ListFull => 5,
+        Refusal::NoPivot => 6,
+        Refusal::Singular => 7,
+    }
+}
+
+// Whether an answer is this refusal, and has its number.
+pub(crate) fn is_refusal(a: Answer, refusal: Refusal) -> bool {
+    a == Err(refusal) && solver::number(a) == number_of_refusal(refusal)
 }
